@@ -1,0 +1,1 @@
+-- The theorems about document 01's definitions.

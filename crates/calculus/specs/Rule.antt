@@ -1,0 +1,17 @@
+-- The eleven rules. Document 01: "Rules have the numbers 1 to 11 in figure 1's order."
+use Prim.Native.Nat.{ℕ}
+use Rattle.calculus.specs.Term.{Term}
+
+-- `Rule n x y`: by rule n, x gives y
+pub data Rule : ℕ → Term → Term → Type 0 where
+  rule-1 : {t : Term} → Rule 1 (Term.app Term.J t) (Term.H Term.J t)
+  rule-2 : {t u : Term} → Rule 2 (Term.app (Term.R t) u) (Term.H (Term.R t) u)
+  rule-3 : {r t u : Term} → Rule 3 (Term.app (Term.H r t) u) (Term.H (Term.H r t) u)
+  rule-4 : {s t u : Term} → Rule 4 (Term.app (Term.A s t) u) (Term.app (Term.B u s) t)
+  rule-5 : {t : Term} → Rule 5 (Term.app Term.I t) t
+  rule-6 : {u s : Term} → Rule 6 (Term.app (Term.B u s) Term.J) u
+  rule-7 : {u s t : Term} → Rule 7 (Term.app (Term.B u s) (Term.R t)) (Term.app s t)
+  rule-8 : {u s r t : Term} → Rule 8 (Term.app (Term.B u s) (Term.H r t)) (Term.app (Term.app (Term.B u s) r) (Term.app (Term.B u s) t))
+  rule-9 : {u s r t : Term} → Rule 9 (Term.app (Term.B u s) (Term.A r t)) (Term.A (Term.app (Term.B u s) r) t)
+  rule-10 : {u s : Term} → Rule 10 (Term.app (Term.B u s) Term.I) Term.I
+  rule-11 : {u s r t : Term} → Rule 11 (Term.app (Term.B u s) (Term.B r t)) (Term.B (Term.app (Term.B u s) r) (Term.app (Term.B u s) t))
