@@ -1,0 +1,139 @@
+-- What reading does at one byte, as laws over plain variables: these carry the loop of `read` and the tests of `parts_of`.
+-- Assumes nothing.
+use Prim.Native.Nat.{ℕ, zero, suc, _+_, _-_, _<_, _≤_}
+use native.Mathlib.Nat.{add-zero}
+use native.Mathlib.Numerals.{add-one, add-two}
+use native.Mathlib.Omega.{arith}
+use mathlib.Core.Path.{_≡_, refl, sym, _∙_, ap, subst}
+use mathlib.Core.Bool.{Bool, true, false}
+use mathlib.Core.List.{List, [], _∷_}
+use mathlib.Core.Option.{Option, none, some}
+use borrow.Author.Tests.{ne-eqb}
+use lib.ListN.{length, getD, drop, drop-of-length-le}
+use lib.Seq.{drop-cons}
+use Rattle.calculus.specs.Letter.{Letter, byte, owed, alphabet, chosen, find, letterOf}
+use Rattle.reading.specs.Reply.{Reply}
+use Rattle.reading.specs.Reading.{atLetter, readingFrom, readingOf}
+use Rattle.reading.specs.Parts.{partsOfLetter, partsOf}
+
+owed-sum : (l : Letter) (k : ℕ) → owed l k ≡ k + owed l 0
+owed-sum Letter.J k = sym (add-zero k)
+owed-sum Letter.R k = sym (add-one k)
+owed-sum Letter.H k = sym (add-two k)
+owed-sum Letter.A k = sym (add-two k)
+owed-sum Letter.I k = sym (add-zero k)
+owed-sum Letter.B k = sym (add-two k)
+owed-sum Letter.stop k = sym (add-two k)
+
+few : (l : Letter) → owed l 0 < 3
+few Letter.J = omega arith
+few Letter.R = omega arith
+few Letter.H = omega arith
+few Letter.A = omega arith
+few Letter.I = omega arith
+few Letter.B = omega arith
+few Letter.stop = omega arith
+
+-- the byte at a place, where a term is owed
+at-byte :
+    (k at : ℕ) (s : List ℕ) →
+    at < length s →
+    readingFrom (suc k) at (drop at s) ≡ atLetter (letterOf (getD s at 0)) at (λ l. readingFrom (owed l k) (suc at) (drop (suc at) s))
+at-byte k at s h = ap (readingFrom (suc k) at) (drop-cons s at 0 h)
+
+-- 5 at a byte that is no letter
+pub no-letter :
+    (owing at parts : ℕ) (s : List ℕ) →
+    at < length s →
+    (owing ≡ 0 → ⊥) → parts ≡ partsOf (getD s at 0) → parts ≡ 3 → readingFrom owing at (drop at s) ≡ Reply.refused 5 at
+unfolding partsOf
+no-letter zero at parts s h owes p e = absurd (owes refl)
+no-letter (suc k) at parts s h owes p e = at-byte k at s h ∙ go (letterOf (getD s at 0)) (sym p ∙ e)
+  where
+    go : (o : Option Letter) → partsOfLetter o ≡ 3 → atLetter o at (λ l. readingFrom (owed l k) (suc at) (drop (suc at) s)) ≡ Reply.refused 5 at
+    go none e = refl
+    go (some l) e = let f : owed l 0 < 3 = few l in absurd (omega arith)
+
+-- reading goes on behind a letter
+pub letter :
+    (owing at parts : ℕ) (s : List ℕ) →
+    at < length s →
+    (owing ≡ 0 → ⊥) →
+    parts ≡ partsOf (getD s at 0) →
+    (parts ≡ 3 → ⊥) →
+    readingFrom (owing - 1 + parts) (at + 1) (drop (at + 1) s) ≡ readingFrom owing at (drop at s)
+unfolding partsOf
+letter zero at parts s h owes p e = absurd (owes refl)
+letter (suc k) at parts s h owes p e =
+    rw (add-one, p) (sym (at-byte k at s h ∙ go (letterOf (getD s at 0)) (λ q. e (p ∙ q))))
+  where
+    go :
+        (o : Option Letter) →
+        (partsOfLetter o ≡ 3 → ⊥) →
+        atLetter o at (λ l. readingFrom (owed l k) (suc at) (drop (suc at) s)) ≡ readingFrom (suc k - 1 + partsOfLetter o) (suc at) (drop (suc at) s)
+    go none e = absurd (e refl)
+    go (some l) e =
+        let sum : owed l k ≡ suc k - 1 + owed l 0 = omega (arith, owed-sum l k) in
+        ap (λ (n : ℕ). readingFrom n (suc at) (drop (suc at) s)) sum
+
+-- 7 at a byte where the term is already whole
+pub already-whole : (owing at : ℕ) (s : List ℕ) → at < length s → owing ≡ 0 → readingFrom owing at (drop at s) ≡ Reply.refused 7 at
+already-whole owing at s h e = rw (e, drop-cons s at 0)
+
+-- at the end, the size
+pub whole : (owing at : ℕ) (s : List ℕ) → length s ≤ at → owing ≡ 0 → readingFrom owing at (drop at s) ≡ Reply.answered at
+whole owing at s h e = rw (e, drop-of-length-le s h)
+
+-- at the end, 6 where a term is still owed
+pub not-yet-whole : (owing at : ℕ) (s : List ℕ) → length s ≤ at → (owing ≡ 0 → ⊥) → readingFrom owing at (drop at s) ≡ Reply.refused 6 at
+not-yet-whole zero at s h owes = absurd (owes refl)
+not-yet-whole (suc k) at s h owes = rw (drop-of-length-le s h)
+
+-- the count of a letter's byte
+pub parts-byte : (l : Letter) (b : ℕ) → b ≡ byte l → owed l 0 ≡ partsOf b
+unfolding partsOf letterOf
+parts-byte l b e = sym (ap (λ (n : ℕ). partsOfLetter (find n alphabet)) e ∙ known l)
+  where
+    known : (l : Letter) → partsOfLetter (find (byte l) alphabet) ≡ owed l 0
+    known Letter.J = refl
+    known Letter.R = refl
+    known Letter.H = refl
+    known Letter.A = refl
+    known Letter.I = refl
+    known Letter.B = refl
+    known Letter.stop = refl
+
+-- a byte that is none of the letters' has the count 3
+pub parts-none : (b : ℕ) → ((l : Letter) → b ≡ byte l → ⊥) → 3 ≡ partsOf b
+unfolding partsOf letterOf
+parts-none b other = sym (ap partsOfLetter (missing alphabet))
+  where
+    missing : (ls : List Letter) → find b ls ≡ none
+    missing [] = refl
+    missing (l ∷ ls) = ap (λ (t : Bool). chosen t l (find b ls)) (ne-eqb b (byte l) (other l)) ∙ missing ls
+
+-- no letter takes more than two terms
+pub parts-few : (b parts : ℕ) → parts ≡ partsOf b → (parts ≡ 3 → ⊥) → parts < 3
+unfolding partsOf
+parts-few b parts p e = rw p (go (letterOf b) (λ q. e (p ∙ q)))
+  where
+    go : (o : Option Letter) → (partsOfLetter o ≡ 3 → ⊥) → partsOfLetter o < 3
+    go none e = absurd (e refl)
+    go (some l) e = few l
+
+-- an invariant that holds at the start
+pub start : (s : List ℕ) → readingFrom 1 0 (drop 0 s) ≡ readingOf s
+unfolding readingOf
+start s = refl
+
+-- a byte that is none of the seven, letter by letter
+pub other :
+    (b : ℕ) →
+    (b ≡ 74 → ⊥) → (b ≡ 73 → ⊥) → (b ≡ 82 → ⊥) → (b ≡ 72 → ⊥) → (b ≡ 65 → ⊥) → (b ≡ 66 → ⊥) → (b ≡ 46 → ⊥) → (l : Letter) → b ≡ byte l → ⊥
+other b j i r h a p s Letter.J e = j e
+other b j i r h a p s Letter.R e = r e
+other b j i r h a p s Letter.H e = h e
+other b j i r h a p s Letter.A e = a e
+other b j i r h a p s Letter.I e = i e
+other b j i r h a p s Letter.B e = p e
+other b j i r h a p s Letter.stop e = s e

@@ -1,0 +1,72 @@
+-- `reading::read` meets its contract. The loop's invariant: reading goes on at `at` with `owed` terms owed, and comes to the whole
+-- slice's answer. The measure is what is left of the slice. Assumes nothing.
+use Prim.Native.Nat.{ℕ, _≤_, _+_, _-_}
+use mathlib.Core.Path.{_≡_, sym, _∙_}
+use native.Mathlib.Omega.{arith}
+use borrow.Author.Needs.{needs}
+use lib.ListN.{length, drop, getD}
+use Rattle.reading.specs.Reading.{readingFrom, readingOf}
+use Rattle.reading.proofs.Scan.{no-letter, letter, already-whole, whole, not-yet-whole, parts-few, start}
+use Rattle.reading.proofs.read.Statement.{statement}
+use Rattle.reading.proofs.read.Tie as tie
+
+abbrev Inv-loop : tie.InvT-loop
+Inv-loop s owed₀ at₀ owed at = (at ≤ length s) × (owed ≤ at + 1) × (readingFrom owed at (drop at s) ≡ readingOf s)
+
+abbrev μ-loop : tie.MeasureT-loop
+μ-loop s owed₀ at₀ owed at = length s - at
+
+loop-holds : tie.Need-loop-holds Inv-loop μ-loop
+loop-holds c = (omega arith, omega arith, start (c .before .args .s .now))
+
+returns : tie.Need-returns Inv-loop μ-loop
+returns c = sym (already-whole (c .before .before .loop .owed) (c .before .before .loop .at) (c .before .before .before .before .args .s .now) (c .before .loop-test .taken) (c .if1 .taken)) ∙ c .before .before .loop .inv .2
+
+shared-slice-read-parts-of : tie.Need-shared-slice-read-parts-of Inv-loop μ-loop
+shared-slice-read-parts-of c = omega arith
+
+parts-of-requires : tie.Need-parts-of-requires Inv-loop μ-loop
+parts-of-requires c κs = search needs
+
+returns-2 : tie.Need-returns-2 Inv-loop μ-loop
+returns-2 c = sym (no-letter (c .before .before .before .before .before .loop .owed) (c .before .before .before .before .before .loop .at) (c .before .parts-of .result) (c .before .before .before .before .before .before .before .args .s .now) (c .before .before .before .before .loop-test .taken) (c .before .before .before .if1 .left) (c .before .parts-of .ensures) (c .if2 .taken)) ∙ c .before .before .before .before .before .loop .inv .2
+
+sub-owed : tie.Need-sub-owed Inv-loop μ-loop
+sub-owed c = omega arith
+
+add-owed : tie.Need-add-owed Inv-loop μ-loop
+add-owed c = let few = parts-few (getD (c .before .before .before .before .before .before .before .args .s .now) (c .before .before .before .before .before .loop .at) 0) (c .before .parts-of .result) (c .before .parts-of .ensures) (c .if2 .left) in omega (arith, c .before .before .before .before .before .before .before .good .0 .1)
+
+add-at : tie.Need-add-at Inv-loop μ-loop
+add-at c = omega arith
+
+loop-less : tie.Need-loop-less Inv-loop μ-loop
+loop-less c = omega arith
+
+loop-again : tie.Need-loop-again Inv-loop μ-loop
+loop-again c = let few = parts-few (getD (c .before .before .before .before .before .before .before .args .s .now) (c .before .before .before .before .before .loop .at) 0) (c .before .parts-of .result) (c .before .parts-of .ensures) (c .if2 .left) in (omega arith, omega arith, letter (c .before .before .before .before .before .loop .owed) (c .before .before .before .before .before .loop .at) (c .before .parts-of .result) (c .before .before .before .before .before .before .before .args .s .now) (c .before .before .before .before .loop-test .taken) (c .before .before .before .if1 .left) (c .before .parts-of .ensures) (c .if2 .left) ∙ c .before .before .before .before .before .loop .inv .2)
+
+returns-3 : tie.Need-returns-3 Inv-loop μ-loop
+returns-3 c = sym (whole (c .before .before .loop .owed) (c .before .before .loop .at) (c .before .before .before .before .args .s .now) (omega arith) (c .if3 .taken)) ∙ c .before .before .loop .inv .2
+
+returns-4 : tie.Need-returns-4 Inv-loop μ-loop
+returns-4 c = sym (not-yet-whole (c .before .before .loop .owed) (c .before .before .loop .at) (c .before .before .before .before .args .s .now) (omega arith) (c .if3 .left)) ∙ c .before .before .loop .inv .2
+
+pub read-spec : {M : Type 1} → statement M
+read-spec =
+    tie.close
+    (tie.spec
+    Inv-loop
+    μ-loop
+    loop-holds
+    returns
+    shared-slice-read-parts-of
+    parts-of-requires
+    returns-2
+    sub-owed
+    add-owed
+    add-at
+    loop-less
+    loop-again
+    returns-3
+    returns-4)
