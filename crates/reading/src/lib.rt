@@ -40,8 +40,8 @@ pub fn read(s: &[u8]) -> Reading
     }
 }
 
-// How many terms a letter takes; 3 for a byte that is no letter.
-fn parts_of(b: u8) -> usize
+// How many terms the letter takes; 3 for a byte that is no letter.
+pub fn parts_of(b: u8) -> usize
     ensures { λ r. ⌜ r ≡ partsOf b ⌝ }
 {
     if b == 74 {
