@@ -1,0 +1,4 @@
+pub mod Part
+pub mod Put
+pub mod Same
+pub mod Wrote
