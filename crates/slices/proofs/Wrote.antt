@@ -24,15 +24,15 @@ wrote-put at piece dst {r} {dst′} h e q =
     let ends : r ≡ at + length piece = q ∙ behind-fits at piece dst h in
     let whole : dst′ ≡ take at dst ++ piece ++ drop (at + length piece) dst = e ∙ put-fits at piece dst h in
     let long : length (take at dst ++ piece) ≡ r =
-      omega (arith, length-append (take at dst) piece, length-take-le at dst (omega arith)) in
+    omega (arith, length-append (take at dst) piece, length-take-le at dst (omega arith)) in
     record {
       ends = ends;
       room = omega arith;
       size = ap length e ∙ length-put at piece dst;
       front = ap (take r) whole ∙ take-at (take at dst ++ piece) (drop (at + length piece) dst) r long;
       rest =
-        ap (drop r) whole ∙ drop-at (take at dst ++ piece) (drop (at + length piece) dst) r long
-        ∙ ap (λ (n : ℕ). drop n dst) (sym ends);
+          ap (drop r) whole ∙ drop-at (take at dst ++ piece) (drop (at + length piece) dst) r long
+          ∙ ap (λ (n : ℕ). drop n dst) (sym ends);
     }
 
 -- two writes, the second behind the first, are one
@@ -41,7 +41,7 @@ pub wrote-then : {at mid end : ℕ} {p q dst dst₁ dst₂ : List ℕ} → Wrote
 wrote-then {at} {mid} {end} {p} {q} {dst} {dst₁} {dst₂} v w =
     let seam : end ≡ mid + length q = w .ends in
     let fall : (l : List ℕ) → drop end l ≡ drop (length q) (drop mid l) =
-      λ l. ap (λ (n : ℕ). drop n l) seam ∙ sym (drop-drop (length q) mid l) in
+    λ l. ap (λ (n : ℕ). drop n l) seam ∙ sym (drop-drop (length q) mid l) in
     record {
       ends = omega (arith, v .ends, w .ends, length-append p q);
       room = omega (arith, w .room, v .size);

@@ -34,14 +34,7 @@ pub fn cut(s: &[u8], from: usize, to: usize) -> &[u8]
 }
 
 // Whether two parts hold the same bytes.
-pub fn same_part(
-    a: &[u8],
-    a_from: usize,
-    a_to: usize,
-    b: &[u8],
-    b_from: usize,
-    b_to: usize,
-) -> bool
+pub fn same_part(a: &[u8], a_from: usize, a_to: usize, b: &[u8], b_from: usize, b_to: usize) -> bool
     ensures { λ r. ⌜ r ≡ same (part «a_from» «a_to» (now (a .entry))) (part «b_from» «b_to» (now (b .entry))) ⌝ }
 {
     check::same(cut(a, a_from, a_to), cut(b, b_from, b_to))
@@ -62,7 +55,7 @@ fn copy_in(piece: &[u8], dst: &mut [u8], at: usize)
 // Writes a part of `src` to index `at` of `dst` and answers the index behind it; changes nothing where it does not fit.
 pub fn append(src: &[u8], from: usize, to: usize, dst: &mut [u8], at: usize) -> usize
     ensures { λ r. ⌜ (now (dst .exit) ≡ put at (part from to (now (src .entry))) (now (dst .entry)))
-      × (r ≡ behind at (part from to (now (src .entry))) (now (dst .entry))) ⌝ }
+        × (r ≡ behind at (part from to (now (src .entry))) (now (dst .entry))) ⌝ }
 {
     let piece = cut(src, from, to);
     if dst.len() < at {

@@ -1,42 +1,56 @@
+-- `slices::append` meets its contract: the tests are those of `put` and `behind`, `cut` gives the piece and `copy_in` puts it. Assumes nothing.
+use mathlib.Core.Path.{_≡_, sym, ap, _∙_}
+use mathlib.Core.List.{List}
+use Prim.Native.Nat.{ℕ, _+_, _≤_}
 use borrow.Author.Needs.{needs}
+use native.Mathlib.Omega.{arith}
+use lib.ListN.{length}
+use Rattle.slices.specs.Part.{part}
+use Rattle.slices.specs.Put.{put}
+use Rattle.slices.proofs.Put.{put-short, behind-fits, behind-short}
 use Rattle.slices.proofs.append.Statement.{statement}
 use Rattle.slices.proofs.append.Tie as tie
-use Rattle.slices.proofs.append.Reads as reads
-use Rattle.slices.proofs.append.Lts as lts
-use Rattle.slices.proofs.copy_in.Reads as copy-in-reads
-use Rattle.slices.proofs.cut.Reads as cut-reads
 
--- src/lib.rt:67:9
 cut-requires : tie.Need-cut-requires
 cut-requires c κs = search needs
 
--- src/lib.rt:69:9
 returns : tie.Need-returns
-returns c = ?
+returns c =
+    let a = c .before .before .before .before .args in
+    let p = part (a .from) (a .to) (a .src .now) in (
+      sym (put-short (a .at) p (a .dst .now) (omega arith)),
+      sym (behind-short (a .at) p (a .dst .now) (omega arith)),
+    )
 
--- src/lib.rt:71:8
 sub-if2 : tie.Need-sub-if2
 sub-if2 c = search needs
 
--- src/lib.rt:72:9
 returns-2 : tie.Need-returns-2
-returns-2 c = ?
+returns-2 c =
+    let a = c .before .before .before .before .before .args in
+    let p = part (a .from) (a .to) (a .src .now) in
+    let e = ap length (c .before .before .cut .ensures) in (
+      sym (put-short (a .at) p (a .dst .now) (omega arith)),
+      sym (behind-short (a .at) p (a .dst .now) (omega arith)),
+    )
 
--- src/lib.rt:74:5
 copy-in-requires : tie.Need-copy-in-requires
 copy-in-requires c κs = search needs
 
--- src/lib.rt:75:5
 add-result : tie.Need-add-result
 add-result c = search needs
 
--- src/lib.rt:63:1
 same-length : tie.Need-same-length
 same-length c = search needs
 
--- src/lib.rt:63:1
 returns-3 : tie.Need-returns-3
-returns-3 c = ?
+returns-3 c =
+    let a = c .before .before .before .before .before .before .before .before .before .args in
+    let p = part (a .from) (a .to) (a .src .now) in
+    let e = ap length (c .before .before .before .before .before .before .cut .ensures) in (
+      c .before .before .copy-in .ensures ∙ ap (λ (l : List ℕ). put (a .at) l (a .dst .now)) (c .before .before .before .before .before .before .cut .ensures),
+      ap (λ (n : ℕ). a .at + n) e ∙ sym (behind-fits (a .at) p (a .dst .now) (omega arith)),
+    )
 
 pub append-spec : {M : Type 1} → statement M
 append-spec =

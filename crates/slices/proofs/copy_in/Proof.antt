@@ -40,18 +40,18 @@ loop-again c =
     let l = c .before .before .loop in (
       omega arith,
       paste-turn
-        (a .dst .now)
-        (a .at)
-        (a .piece .now)
-        (l .i)
-        (a .at + l .i)
-        (getD (a .piece .now) (l .i) 0)
-        (l .dst)
-        (omega arith)
-        (omega arith)
-        refl
-        refl
-        (l .inv .1),
+          (a .dst .now)
+          (a .at)
+          (a .piece .now)
+          (l .i)
+          (a .at + l .i)
+          (getD (a .piece .now) (l .i) 0)
+          (l .dst)
+          (omega arith)
+          (omega arith)
+          refl
+          refl
+          (l .inv .1),
       simp length-set (l .inv .2),
     )
 

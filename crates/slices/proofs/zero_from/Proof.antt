@@ -26,7 +26,7 @@ abbrev μ-loop : tie.MeasureT-loop
 pasted : (d : List ℕ) (at n : ℕ) → n ≡ length d - at → paste d at (zeros d at) n ≡ take at d ++ zeros d at
 pasted d at n e =
     ap (λ (l : List ℕ). take at d ++ l ++ drop (at + n) d) (take-all n (zeros d at) (omega (arith, length-replicate {A = ℕ} (length d - at) 0)))
-    ∙ ap (λ (l : List ℕ). take at d ++ zeros d at ++ l) (drop-of-length-le d (omega arith))
+    ∙ ap (λ (l : List ℕ). take at d ++ zeros d at ++ l) (drop-of-length-le d {i = at + n} (omega arith))
     ∙ append-nil (take at d ++ zeros d at)
 
 loop-holds : tie.Need-loop-holds Inv-loop μ-loop
@@ -35,7 +35,7 @@ loop-holds c =
       omega arith,
       omega arith,
       paste-zero (a .dst .now) (a .at) (zeros (a .dst .now) (a .at))
-      ∙ ap (paste (a .dst .now) (a .at) (zeros (a .dst .now) (a .at))) (sym (sub-self (a .at))),
+          ∙ ap (paste (a .dst .now) (a .at) (zeros (a .dst .now) (a .at))) (sym (sub-self (a .at))),
       refl,
     )
 
@@ -56,19 +56,19 @@ loop-again c =
       omega arith,
       omega arith,
       paste-turn
-        (a .dst .now)
-        (a .at)
-        (zeros (a .dst .now) (a .at))
-        (l .i - a .at)
-        (l .i)
-        0
-        (l .dst)
-        (omega arith)
-        (omega (arith, length-replicate {A = ℕ} (length (a .dst .now) - a .at) 0))
-        (omega arith)
-        (sym (getD-replicate (length (a .dst .now) - a .at) (l .i - a .at) 0 0 (omega arith)))
-        (l .inv .2)
-      ∙ ap (paste (a .dst .now) (a .at) (zeros (a .dst .now) (a .at))) next,
+          (a .dst .now)
+          (a .at)
+          (zeros (a .dst .now) (a .at))
+          (l .i - a .at)
+          (l .i)
+          0
+          (l .dst)
+          (omega arith)
+          (omega (arith, length-replicate {A = ℕ} (length (a .dst .now) - a .at) 0))
+          (omega arith)
+          (sym (getD-replicate (length (a .dst .now) - a .at) (l .i - a .at) 0 0 (omega arith)))
+          (l .inv .2)
+          ∙ ap (paste (a .dst .now) (a .at) (zeros (a .dst .now) (a .at))) next,
       simp length-set (l .inv .3),
     )
 
