@@ -1,13 +1,12 @@
 -- The laws of `part`: its length, its ends, its bytes, parts of an append and of a part. Each is `take` and `drop` of `lib.Seq`.
 -- Assumes nothing.
-use mathlib.Core.Path.{_≡_, refl, sym, ap, _∙_}
-use mathlib.Core.List.{List, [], _∷_, _++_, append-nil}
+use mathlib.Core.Path.{_≡_, sym, ap, _∙_}
+use mathlib.Core.List.{List, [], _∷_, _++_}
 use Prim.Native.Nat.{ℕ, zero, suc, _+_, _-_, _≤_, _<_, min}
 use native.Mathlib.Nat.{sub-zero, zero-sub, suc-sub-suc}
-use native.Mathlib.Numerals.{add-one}
 use native.Mathlib.Omega.{arith}
 use lib.ListN.{length, take, drop, getD, length-take, length-drop, drop-of-length-le}
-use lib.Seq.{take-nil, take-all, take-add, take-take, drop-drop, drop-cons, drop-nil, drop-append-le, drop-append-add, take-append-le, getD-take, getD-drop}
+use lib.Seq.{take-nil, take-all, take-add, take-take, drop-drop, drop-cons, drop-append-add, take-append-le, getD-take, getD-drop}
 use Rattle.slices.specs.Part.{part}
 
 -- ---- length

@@ -1,11 +1,11 @@
 -- The laws of `Wrote`: what a `put` that fits leaves, two writes one behind the other as one, and what is read back.
 -- Assumes nothing.
 use mathlib.Core.Path.{_≡_, refl, sym, ap, _∙_}
-use mathlib.Core.List.{List, [], _∷_, _++_, append-assoc, append-nil}
-use Prim.Native.Nat.{ℕ, _+_, _-_, _≤_, _<_}
+use mathlib.Core.List.{List, [], _++_, append-assoc, append-nil}
+use Prim.Native.Nat.{ℕ, _+_, _-_, _≤_}
 use native.Mathlib.Omega.{arith}
 use lib.ListN.{length, take, drop, replicate, length-append, take-append-drop}
-use lib.Seq.{paste, take-length, length-take-le, take-take, take-paste, drop-paste, take-append-le, take-at, drop-at, drop-drop}
+use lib.Seq.{length-take-le, take-take, take-at, drop-at, drop-drop}
 use Rattle.slices.specs.Part.{part}
 use Rattle.slices.specs.Put.{put, behind}
 use Rattle.slices.specs.Wrote.{Wrote}

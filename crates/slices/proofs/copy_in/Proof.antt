@@ -1,8 +1,7 @@
 -- `slices::copy_in` meets its contract. The loop's invariant: `dst` is what it was with the first i bytes of `piece` pasted in from `at`.
 -- A turn is `paste-turn`, and the whole paste is a `put`. The measure is what is left of `piece`. Assumes nothing.
 use mathlib.Core.Path.{_≡_, refl, ap, _∙_}
-use mathlib.Core.List.{List}
-use Prim.Native.Nat.{ℕ, _+_, _≤_, _-_}
+use Prim.Native.Nat.{_+_, _≤_, _-_}
 use native.Mathlib.Omega.{arith}
 use lib.ListN.{length, getD, length-set}
 use lib.Seq.{paste, paste-zero}

@@ -1,5 +1,5 @@
 -- `slices::cut` meets its contract: each of its four answers is a law of `part`. Assumes nothing.
-use mathlib.Core.Path.{sym, ap, _∙_}
+use mathlib.Core.Path.{sym}
 use borrow.Author.Needs.{needs}
 use native.Mathlib.Omega.{arith}
 use Rattle.slices.proofs.Part.{part-empty, part-past, part-clip}

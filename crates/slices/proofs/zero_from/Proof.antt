@@ -1,7 +1,7 @@
 -- `slices::zero_from` meets its contract. The loop's invariant: `dst` is what it was with the first i - at of the zeros pasted in from `at`.
 -- A turn is `paste-turn`. The measure is what is left of `dst`. Assumes nothing.
 use mathlib.Core.Path.{_≡_, refl, sym, ap, _∙_}
-use mathlib.Core.List.{List, [], _++_, append-nil}
+use mathlib.Core.List.{List, _++_, append-nil}
 use Prim.Native.Nat.{ℕ, _+_, _≤_, _-_}
 use native.Mathlib.Nat.{sub-self}
 use native.Mathlib.Omega.{arith}
