@@ -1,1 +1,2 @@
 -- The theorems about document 01's definitions.
+pub mod Confluence
