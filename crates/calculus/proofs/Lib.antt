@@ -1,2 +1,3 @@
 -- The theorems about document 01's definitions.
 pub mod Confluence
+pub mod SubjectReduction
