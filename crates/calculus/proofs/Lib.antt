@@ -1,3 +1,4 @@
 -- The theorems about document 01's definitions.
 pub mod Confluence
 pub mod SubjectReduction
+pub mod Derivations
