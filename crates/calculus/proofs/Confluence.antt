@@ -153,26 +153,21 @@ triangle (par-B p q) = par-B (triangle p) (triangle q)
 triangle (par-app p q) = app-contract _ _ (triangle p) (triangle q)
 triangle (fire p q r) = rule-contract r (triangle p) (triangle q)
 
--- a term that t reduces to and u becomes
-pub record Strip (t u : Term) : Type 0 where
-  pub meet : Term
-  pub left : Reduce t meet
-  pub right : Par u meet
+-- Terms whose reducts have a common reduct have it too.
+pub joins-before : {t t′ u u′ : Term} → Reduce t t′ → Reduce u u′ → Joins t′ u′ → Joins t u
+joins-before h k j = record { meet = j .meet; left = reduce-trans h (j .left); right = reduce-trans k (j .right) }
 
--- What a term becomes and what it reduces to meet.
-pub strip : {t u v : Term} → Par t u → Reduce t v → Strip u v
-strip p Reduce.unchanged = record { meet = _; left = Reduce.unchanged; right = p }
-strip p (Reduce.forwards c h) =
-    let s = strip (triangle (change-par c)) h in
-    record { meet = s .meet; left = reduce-trans (par-reduce (triangle p)) (s .left); right = s .right }
+-- What a term becomes and what it reduces to have a common reduct.
+pub strip : {t u v : Term} → Par t u → Reduce t v → Joins u v
+strip p Reduce.unchanged = record { meet = _; left = Reduce.unchanged; right = par-reduce p }
+strip p (Reduce.forwards c h) = joins-before (par-reduce (triangle p)) Reduce.unchanged (strip (triangle (change-par c)) h)
 
 -- Reduction is confluent: two reducts of a term have a common reduct.
 pub confluence : {t u v : Term} → Reduce t u → Reduce t v → Joins u v
 confluence Reduce.unchanged k = record { meet = _; left = k; right = Reduce.unchanged }
 confluence (Reduce.forwards c h) k =
-    let s = strip (change-par c) k in
-    let j = confluence h (s .left) in
-    record { meet = j .meet; left = j .left; right = reduce-trans (par-reduce (s .right)) (j .right) }
+    let j = strip (change-par c) k in
+    joins-before Reduce.unchanged (j .right) (confluence h (j .left))
 
 -- Turnings follow one another.
 pub turn-trans : {t u v : Term} → Turn t u → Turn u v → Turn t v
@@ -194,13 +189,10 @@ reduce-turn (Reduce.forwards c h) = Turn.forwards c (reduce-turn h)
 -- Terms that turn into each other have a common reduct.
 pub turn-join : {t u : Term} → Turn t u → Joins t u
 turn-join Turn.unchanged = record { meet = _; left = Reduce.unchanged; right = Reduce.unchanged }
-turn-join (Turn.forwards c h) =
-    let j = turn-join h in
-    record { meet = j .meet; left = Reduce.forwards c (j .left); right = j .right }
+turn-join (Turn.forwards c h) = joins-before (Reduce.forwards c Reduce.unchanged) Reduce.unchanged (turn-join h)
 turn-join (Turn.backwards c h) =
     let j = turn-join h in
-    let k = confluence (Reduce.forwards c Reduce.unchanged) (j .left) in
-    record { meet = k .meet; left = k .left; right = reduce-trans (j .right) (k .right) }
+    joins-before Reduce.unchanged (j .right) (confluence (Reduce.forwards c Reduce.unchanged) (j .left))
 
 -- Two terms can be turned into each other exactly when they have a common reduct.
 pub turn-joins : (t u : Term) → Turn t u ↔ Joins t u

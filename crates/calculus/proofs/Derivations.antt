@@ -1,7 +1,7 @@
 -- The two views of derivable agree: a finite list of judgements ends with one exactly when figure 2 has a tree for it.
 use Prim.Native.Nat.{ℕ}
-use mathlib.Core.Path.{_≡_, refl, sym, subst}
-use mathlib.Core.List.{List, [], _∷_, _++_, List·Memᴰ, List·Memᴰ·head, Memᴰ·append-left, Memᴰ·append-right}
+use mathlib.Core.Path.{refl, sym, subst}
+use mathlib.Core.List.{List, [], _∷_, _++_, List·Memᴰ, List·Memᴰ·head, List·Memᴰ·tail, Memᴰ·append-left, Memᴰ·append-right}
 use mathlib.Core.Logic.{_↔_}
 use Rattle.calculus.specs.Term.{Term}
 use Rattle.calculus.specs.Change.{Place, Change}
@@ -31,8 +31,8 @@ follows-has Follows.by-s (Among.also m (Among.also k Among.all)) tree = Has.has-
 -- Each judgement of a derivation has a tree.
 pub members-have : {js : List Judgement} → Derivation js → (j : Judgement) → List·Memᴰ j js → Tree j
 members-have Derivation.start j m = elim m [ ]
-members-have (Derivation.line f a d) j (List·Memᴰ.List·Memᴰ·head e) = subst Tree (sym e) (follows-has f a (members-have d))
-members-have (Derivation.line f a d) j (List·Memᴰ.List·Memᴰ·tail m) = members-have d j m
+members-have (Derivation.line f a d) j (List·Memᴰ·head e) = subst Tree (sym e) (follows-has f a (members-have d))
+members-have (Derivation.line f a d) j (List·Memᴰ·tail m) = members-have d j m
 
 -- The last judgement of a derivation has a tree.
 pub derivation-has : {j : Judgement} {earlier : List Judgement} → Derivation (j ∷ earlier) → Tree j
@@ -59,9 +59,9 @@ follows-one f d = record { earlier = _; derivation = Derivation.line f (Among.al
 -- What follows from two derivable judgements is derivable.
 pub follows-two : {name : Name} {i k j : Judgement} → Follows name (i ∷ k ∷ []) j → Derivable i → Derivable k → Derivable j
 follows-two {i} f d e =
-    let in-first = List·Memᴰ·head refl in
-    let in-second = Memᴰ·append-right (i ∷ d .earlier) (List·Memᴰ·head refl) in
-    record { earlier = _; derivation = Derivation.line f (Among.also in-first (Among.also in-second Among.all)) (derivation-append (d .derivation) (e .derivation)) }
+    let both = derivation-append (d .derivation) (e .derivation) in
+    let second = Memᴰ·append-right (i ∷ d .earlier) (List·Memᴰ·head refl) in
+    record { earlier = _; derivation = Derivation.line f (Among.also (List·Memᴰ·head refl) (Among.also second Among.all)) both }
 
 -- A judgement that has a tree is derivable.
 pub has-derivation : {G : Context} {t : Term} {W : Ty} → Has G t W → Derivable (Judgement.judge G t W)
