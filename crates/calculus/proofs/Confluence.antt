@@ -1,4 +1,4 @@
--- Reduction is confluent: terms turn into each other exactly when they have a common reduct, and a term has at most one normal form.
+-- Reduction is confluent: terms turn into each other exactly when they have a common reduct, normal terms exactly when they are the same.
 -- By superdevelopments: `Par` lets a rule fire on what the parts of a redex have become, and `develop` does all that `Par` can.
 use Prim.Native.Nat.{ℕ}
 use mathlib.Core.Path.{_≡_, refl, sym, _∙_, subst}
