@@ -2,3 +2,4 @@
 pub mod Confluence
 pub mod SubjectReduction
 pub mod Derivations
+pub mod PrefixCode
