@@ -56,7 +56,7 @@ part-join a b c s h k =
     ∙ sym (ap (λ (n : ℕ). take n (drop a s)) whole ∙ take-add (b - a) (c - b) (drop a s))
 
 -- the part of one index
-part-one : (at : ℕ) (s : List ℕ) → at < length s → part at (at + 1) s ≡ getD s at 0 ∷ []
+pub part-one : (at : ℕ) (s : List ℕ) → at < length s → part at (at + 1) s ≡ getD s at 0 ∷ []
 part-one at s h =
     let one : at + 1 - at ≡ 1 = omega arith in
     ap (λ (n : ℕ). take n (drop at s)) one ∙ ap (take 1) (drop-cons s at 0 h)
@@ -100,14 +100,14 @@ part-part a b from to s h =
     ∙ ap (take (b - a)) (drop-drop a from s)
     ∙ ap (λ (n : ℕ). take n (drop (from + a) s)) (sym size)
 
--- lists that agree on the first `to` have the same part there
+-- lists that agree on their first n have the same parts there
 pub part-of-take : (from to n : ℕ) (s t : List ℕ) → to ≤ n → take n s ≡ take n t → part from to s ≡ part from to t
 part-of-take from to n s t h e =
     part-slice from to s
     ∙ ap (drop from) (sym (take-take to n s h) ∙ ap (take to) e ∙ take-take to n t h)
     ∙ sym (part-slice from to t)
 
--- and so have lists that agree from n on, for a part behind it
+-- and lists that agree from n on have the same parts behind it
 pub part-of-drop : (from to n : ℕ) (s t : List ℕ) → n ≤ from → drop n s ≡ drop n t → part from to s ≡ part from to t
 part-of-drop from to n s t h e =
     let start : n + (from - n) ≡ from = omega arith in
