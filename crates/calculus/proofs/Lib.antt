@@ -3,3 +3,4 @@ pub mod Confluence
 pub mod SubjectReduction
 pub mod Derivations
 pub mod PrefixCode
+pub mod Order
