@@ -4,3 +4,4 @@ pub mod SubjectReduction
 pub mod Derivations
 pub mod PrefixCode
 pub mod Order
+pub mod Runs

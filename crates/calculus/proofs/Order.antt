@@ -210,6 +210,10 @@ progress t = go (next t) (says t)
     go Next.stop a = inl a
     go (Next.step n u) a = inr (n, u, a)
 
+-- a term that is not normal has a next step
+pub not-normal-step : {t : Term} → ¬ Normal t → (n : ℕ) × (u : Term) × Step n t u
+not-normal-step {t} m = ⊎-elim (λ a. absurd (m a)) (λ s. s) (progress t)
+
 -- whether a term is normal can be told
 pub normal? : (t : Term) → Dec (Normal t)
 normal? t = ⊎-elim yes (λ s. no (step-not-normal (s .2))) (progress t)
