@@ -6,6 +6,7 @@
 -- simple or context. Premises stand in the order written."
 use Prim.Native.Nat.{ℕ}
 use mathlib.Core.List.{List, [], _∷_}
+use Rattle.calculus.specs.Letter.{Letter, byte}
 use Rattle.calculus.specs.Term.{Term}
 use Rattle.calculus.specs.Types.{Simple, Context, Ty}
 
@@ -19,13 +20,13 @@ pub data Name : Type 0 where
 
 -- the name's ASCII code
 abbrev pub nameByte : Name → ℕ
-nameByte Name.J = 74
-nameByte Name.R = 82
-nameByte Name.H = 72
-nameByte Name.A = 65
+nameByte Name.J = byte Letter.J
+nameByte Name.R = byte Letter.R
+nameByte Name.H = byte Letter.H
+nameByte Name.A = byte Letter.A
 nameByte Name.f = 102
-nameByte Name.I = 73
-nameByte Name.B = 66
+nameByte Name.I = byte Letter.I
+nameByte Name.B = byte Letter.B
 nameByte Name.s = 115
 
 -- `Follows name premises j`: by the rule of that name, j follows from the premises
