@@ -1,7 +1,9 @@
--- The theorems about document 01's definitions.
+-- The theorems about document 01's definitions, in the order of the argument.
+pub mod PrefixCode
+pub mod Order
 pub mod Confluence
 pub mod SubjectReduction
 pub mod Derivations
-pub mod PrefixCode
-pub mod Order
 pub mod Runs
+pub mod Results
+pub mod Examples

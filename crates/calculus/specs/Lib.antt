@@ -10,3 +10,4 @@ pub mod Run
 pub mod Types
 pub mod Typing
 pub mod Derivation
+pub mod Examples
