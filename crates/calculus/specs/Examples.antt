@@ -31,7 +31,7 @@ row start fuel area outcome count rules reached =
     record { start = start; fuel = fuel; area = area; expected = Played.played outcome count rules (ascii reached) }
 
 abbrev pub ample-fuel : ℕ
-ample-fuel = 1_000_000
+ample-fuel = 1_000
 
 abbrev pub ample-area : ℕ
 ample-area = 16_384
