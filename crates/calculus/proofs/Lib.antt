@@ -4,6 +4,7 @@ pub mod Order
 pub mod Confluence
 pub mod SubjectReduction
 pub mod Derivations
+pub mod Sizes
 pub mod Runs
 pub mod Results
 pub mod Examples
