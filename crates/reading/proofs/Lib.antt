@@ -1,2 +1,4 @@
 pub mod Scan
 pub mod Whole
+pub mod Numbers
+pub mod Refusing

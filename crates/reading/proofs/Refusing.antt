@@ -1,0 +1,32 @@
+-- What a test that refuses, or does not, says. Assumes nothing.
+use Prim.Native.Nat.{ℕ}
+use mathlib.Core.Path.{_≡_, refl}
+use mathlib.Core.Bool.{Bool, true, false}
+use mathlib.Core.List.{List, _∷_, List·Memᴰ·head, List·Memᴰ·tail}
+use native.Mathlib.Omega.{arith}
+use Prim.Native.Nat.{_≤_}
+use Rattle.reading.specs.Reply.{Reply, refuseIf}
+use Rattle.reading.proofs.Numbers.{Listed}
+
+-- a test that did not refuse did not hold
+pub passed : {X : Type 0} (test : Bool) (number : ℕ) (other : Reply X) (x : X) → refuseIf test number other ≡ Reply.answered x → test ≡ false
+passed true number other x e = cc
+passed false number other x e = refl
+
+-- what it passed on was answered
+pub passed-on :
+    {X : Type 0} (test : Bool) (number : ℕ) (other : Reply X) (x : X) → refuseIf test number other ≡ Reply.answered x → other ≡ Reply.answered x
+passed-on true number other x e = cc
+passed-on false number other x e = e
+
+-- a refusal has the test's number, or one of those that it passes on
+pub refused-by :
+    {X : Type 0} (test : Bool) (number n p : ℕ) (other : Reply X) (numbers : List ℕ) (most : ℕ) →
+    (other ≡ Reply.refused n p → Listed numbers most n p) → refuseIf test number other ≡ Reply.refused n p → Listed (number ∷ numbers) most n p
+refused-by true number n p other numbers most rest e =
+    let same : n ≡ number = cc in
+    let here : p ≡ 0 = cc in
+    record { listed = List·Memᴰ·head same; within = omega arith }
+refused-by false number n p other numbers most rest e =
+    let found = rest e in
+    record { listed = List·Memᴰ·tail (found .listed); within = found .within }
