@@ -1,0 +1,27 @@
+-- `stepping::clear` meets its contract: two calls of `zero_from`. Assumes nothing.
+use mathlib.Core.Path.{_∙_, ap}
+use Prim.Native.Nat.{ℕ}
+use native.Mathlib.Nat.{sub-zero}
+use borrow.Author.Needs.{needs}
+use lib.ListN.{length, replicate}
+use Rattle.stepping.proofs.clear.Statement.{statement}
+use Rattle.stepping.proofs.clear.Tie as tie
+
+zero-from-requires : tie.Need-zero-from-requires
+zero-from-requires c κs = search needs
+
+zero-from-requires-2 : tie.Need-zero-from-requires-2
+zero-from-requires-2 c κs = search needs
+
+same-length : tie.Need-same-length
+same-length c = search needs
+
+same-length-2 : tie.Need-same-length-2
+same-length-2 c = search needs
+
+returns : tie.Need-returns
+returns c = (c .before .before .before .before .before .before .zero-from .ensures, c .before .before .zero-from2 .ensures ∙ ap (λ (n : ℕ). replicate n 0) (sub-zero (length (c .before .before .before .before .before .before .before .before .before .before .args .work .now))))
+
+pub clear-spec : {M : Type 1} → statement M
+clear-spec =
+    tie.close (tie.spec zero-from-requires zero-from-requires-2 same-length same-length-2 returns)

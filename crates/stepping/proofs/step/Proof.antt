@@ -1,0 +1,89 @@
+-- `stepping::step` meets its contract: each refusal is a law of `Stepped`, and what reading answers is handed to `advance`. Assumes nothing.
+use Prim.Native.Nat.{ℕ, _≤_}
+use native.Mathlib.Omega.{arith}
+use mathlib.Core.Path.{_≡_, sym, _∙_, ap}
+use mathlib.Core.Logic.{⊎-elim}
+use mathlib.Core.List.{List, [], _∷_}
+use types.Run.{OneOf}
+use denote.Enum.Declared.{tagOf}
+use borrow.Author.Needs.{needs}
+use lib.ListN.{length, take}
+use lib.Seq.{length-take-le}
+use Rattle.reading.specs.declared.Reading.{Reading}
+use Rattle.reading.specs.declared.Reading.the-variants.{Whole, NoLetter, NotWhole, Beyond}
+use Rattle.reading.proofs.Reading.{the-type}
+use Rattle.reading.specs.Reading.{readingOf, refusal}
+use Rattle.reading.specs.Answer.{answerOf as readingAnswer}
+use Rattle.stepping.specs.Stepping.{After, steppingOf}
+use Rattle.stepping.proofs.Stepped.{area-refused, work-refused, length-refused, reading-refused, reading-answered}
+use Rattle.stepping.proofs.step.Statement.{statement}
+use Rattle.stepping.proofs.step.Tie as tie
+
+-- what is not whole is refused
+unread :
+    (area : List ℕ) (len : ℕ) (work : List ℕ) → length area ≤ 16384 → length area ≤ length work → len ≤ length area →
+    (r : Reading) → readingAnswer r ≡ readingOf (take len area) → OneOf (1 ∷ 2 ∷ 3 ∷ []) (tagOf the-type r) →
+    After.after (refusal (readingAnswer r)) area work ≡ steppingOf area len work
+unread area len work short enough within (Whole n) e k = absurd (⊎-elim (λ h. omega arith) (⊎-elim (λ h. omega arith) (λ h. omega arith)) k)
+unread area len work short enough within (NoLetter place) e k = reading-refused area len work short enough within 5 place e
+unread area len work short enough within (NotWhole place) e k = reading-refused area len work short enough within 6 place e
+unread area len work short enough within (Beyond place) e k = reading-refused area len work short enough within 7 place e
+
+returns : tie.Need-returns
+returns c = area-refused (c .before .before .before .args .area .now) (c .before .before .before .args .len) (c .before .before .before .args .work .now) (c .if1 .taken)
+
+returns-2 : tie.Need-returns-2
+returns-2 c = work-refused (c .before .before .before .before .args .area .now) (c .before .before .before .before .args .len) (c .before .before .before .before .args .work .now) (c .before .if1 .left) (c .if2 .taken)
+
+returns-3 : tie.Need-returns-3
+returns-3 c = length-refused (c .before .before .before .before .before .args .area .now) (c .before .before .before .before .before .args .len) (c .before .before .before .before .before .args .work .now) (c .before .before .if1 .left) (c .before .if2 .left) (c .if3 .taken)
+
+slice-reshare-prefix-read : tie.Need-slice-reshare-prefix-read
+slice-reshare-prefix-read c = search needs
+
+slice-aggregate-read : tie.Need-slice-aggregate-read
+slice-aggregate-read c = sym (length-take-le (c .before .before .before .before .before .before .args .len) (c .before .before .before .before .before .before .args .area .now) (c .before .if3 .left))
+
+read-requires : tie.Need-read-requires
+read-requires c κs = search needs
+
+enum-known-reading : tie.Need-enum-known-reading
+enum-known-reading c = search needs
+
+same-length : tie.Need-same-length
+same-length c = search needs
+
+returns-4 : tie.Need-returns-4
+returns-4 c = unread (c .before .before .before .before .before .before .before .before .args .area .now) (c .before .before .before .before .before .before .before .before .args .len) (c .before .before .before .before .before .before .before .before .args .work .now) (c .before .before .before .before .before .if1 .left) (c .before .before .before .before .if2 .left) (c .before .before .before .if3 .left) (c .before .read .result) (c .before .read .ensures) (c .match .keys2)
+
+advance-requires : tie.Need-advance-requires
+advance-requires c κs = reading-answered (c .before .before .before .before .before .before .before .before .before .before .before .before .args .area .now) (c .before .before .before .before .before .before .before .before .before .before .before .before .args .len) (c .before .before .before .before .before .before .before .before .before .before .before .before .args .work .now) (c .before .before .before .before .before .before .before .before .before .if1 .left) (c .before .before .before .before .before .before .before .before .if2 .left) (c .before .before .before .before .before .before .before .if3 .left) (c .before .before .before .reading .given .0 .0) (ap readingAnswer (sym (c .before .before .before .reading .given .1)) ∙ c .before .before .before .before .before .read .ensures) .1
+
+same-length-2 : tie.Need-same-length-2
+same-length-2 c = search needs
+
+same-length-3 : tie.Need-same-length-3
+same-length-3 c = search needs
+
+returns-5 : tie.Need-returns-5
+returns-5 c =
+    let read = reading-answered (c .before .before .before .before .before .before .before .before .before .before .before .before .before .before .before .before .before .args .area .now) (c .before .before .before .before .before .before .before .before .before .before .before .before .before .before .before .before .before .args .len) (c .before .before .before .before .before .before .before .before .before .before .before .before .before .before .before .before .before .args .work .now) (c .before .before .before .before .before .before .before .before .before .before .before .before .before .before .if1 .left) (c .before .before .before .before .before .before .before .before .before .before .before .before .before .if2 .left) (c .before .before .before .before .before .before .before .before .before .before .before .before .if3 .left) (c .before .before .before .before .before .before .before .before .reading .given .0 .0) (ap readingAnswer (sym (c .before .before .before .before .before .before .before .before .reading .given .1)) ∙ c .before .before .before .before .before .before .before .before .before .before .read .ensures) in
+    c .before .before .before .before .advance .ensures (read .0) (c .before .before .before .before .before .before .before .before .before .before .before .before .before .if2 .left) ∙ sym (read .2)
+
+pub step-spec : {M : Type 1} → statement M
+step-spec =
+    tie.close
+    (tie.spec
+    returns
+    returns-2
+    returns-3
+    slice-reshare-prefix-read
+    slice-aggregate-read
+    read-requires
+    enum-known-reading
+    same-length
+    returns-4
+    advance-requires
+    same-length-2
+    same-length-3
+    returns-5)

@@ -1,0 +1,100 @@
+// Stepping: one step of the term in a lent area.
+mod ends;
+mod rewrite;
+mod search;
+
+use reading::Reading;
+use rewrite::growth;
+use rewrite::rewrite_at;
+use rewrite::write;
+use search::redex;
+ghost use mathlib.Core.Path.{_≡_};
+ghost use mathlib.Core.List.{List, _++_};
+ghost use Prim.Native.Nat.{ℕ, _-_, _≤_};
+ghost use lib.ListN.{length, take, replicate};
+ghost use Rattle.calculus.specs.Term.{Term, text};
+ghost use Rattle.calculus.specs.Order.{next};
+ghost use Rattle.slices.specs.Wrote.{Wrote};
+ghost use Rattle.stepping.specs.Areas.{holding};
+ghost use Rattle.stepping.specs.Spot.{Holds};
+ghost use Rattle.stepping.specs.Stepping.{After, stepNext, steppingOf};
+ghost use Rattle.stepping.specs.Answer.{answerOf};
+
+// What stepping answers; specs/Answer.antt gives the number and the values of each case.
+pub enum Stepping {
+    // The term area is over 16,384 bytes.
+    AreaTooLong,
+    // The work area is shorter than the term area.
+    WorkTooShort,
+    // The length exceeds the term area.
+    LengthTooLong,
+    // What reading refused, unaltered.
+    Unread(Reading),
+    // The term has no next step; its size.
+    Normal(usize),
+    // The next term is larger than the area; the size of the term, which stays.
+    NoRoom(usize),
+    // The rule's number, and the size of the new term.
+    Done(u8, usize),
+}
+
+// Zeros behind the term, which takes the first `size` bytes, and in the whole work area.
+fn clear(area: &mut [u8], size: usize, work: &mut [u8])
+    ensures { λ _. ⌜ now (area .exit) ≡ take size (now (area .entry)) ++ replicate (length (now (area .entry)) - size) 0 ⌝ }
+    ensures { λ _. ⌜ now (work .exit) ≡ replicate (length (now (work .entry))) 0 ⌝ }
+{
+    slices::zero_from(area, size);
+    slices::zero_from(work, 0);
+}
+
+// Moves the new term, the first `size` bytes of the work area, to the term area.
+fn put_back(area: &mut [u8], size: usize, work: &mut [u8])
+    ensures { λ _. ⌜ ((t : Term) (old : List ℕ) → Wrote 0 size (text t) old (now (work .entry)) → size ≤ length (now (area .entry))
+        → now (area .exit) ≡ holding t (now (area .entry))) ⌝ }
+    ensures { λ _. ⌜ now (work .exit) ≡ replicate (length (now (work .entry))) 0 ⌝ }
+{
+    slices::append(work, 0, size, area, 0);
+    clear(area, size, work);
+}
+
+// One step of the term in the first `len` bytes, or what keeps it from one.
+fn advance(area: &mut [u8], len: usize, work: &mut [u8]) -> Stepping
+    requires { ⌜ len ≤ length (now area) ⌝ }
+    ensures { λ r. ⌜ ((h : Holds (now (area .entry)) len) → length (now (area .entry)) ≤ length (now (work .entry))
+        → After.after (answerOf r) (now (area .exit)) (now (work .exit))
+        ≡ stepNext (h .term) (next (h .term)) (now (area .entry)) (now (work .entry))) ⌝ }
+{
+    let p = redex(area, len);
+    if p == len {
+        clear(area, len, work);
+        return Stepping::Normal(len);
+    }
+    let w = rewrite_at(area, p);
+    if area.len() - len < growth(w) {
+        clear(area, len, work);
+        return Stepping::NoRoom(len);
+    }
+    let size = write(area, len, w, work);
+    put_back(area, size, work);
+    Stepping::Done(w.rule, size)
+}
+
+// One step of the term in the first `len` bytes of the area; the work area is at least as long as the area.
+pub fn step(area: &mut [u8], len: usize, work: &mut [u8]) -> Stepping
+    ensures { λ r. ⌜ After.after (answerOf r) (now (area .exit)) (now (work .exit)) ≡ steppingOf (now (area .entry)) len (now (work .entry)) ⌝ }
+{
+    if 16384 < area.len() {
+        return Stepping::AreaTooLong;
+    }
+    if work.len() < area.len() {
+        return Stepping::WorkTooShort;
+    }
+    if area.len() < len {
+        return Stepping::LengthTooLong;
+    }
+    let reading = reading::read(&area[..len]);
+    let Reading::Whole(size) = reading else {
+        return Stepping::Unread(reading);
+    };
+    advance(area, size, work)
+}
