@@ -19,14 +19,14 @@ pub passed-on :
 passed-on true number other x e = cc
 passed-on false number other x e = e
 
--- a refusal has the test's number, or one of those that it passes on
+-- a refusal has the test's number at place 0, or is one that was passed on, the test not holding
 pub refused-by :
     {X : Type 0} (test : Bool) (number n p : ℕ) (other : Reply X) (numbers : List ℕ) (most : ℕ) →
-    (other ≡ Reply.refused n p → Listed numbers most n p) → refuseIf test number other ≡ Reply.refused n p → Listed (number ∷ numbers) most n p
+    (test ≡ false → other ≡ Reply.refused n p → Listed numbers most n p) → refuseIf test number other ≡ Reply.refused n p → Listed (number ∷ numbers) most n p
 refused-by true number n p other numbers most rest e =
     let same : n ≡ number = cc in
     let here : p ≡ 0 = cc in
     record { listed = List·Memᴰ·head same; within = omega arith }
 refused-by false number n p other numbers most rest e =
-    let found = rest e in
+    let found = rest refl e in
     record { listed = List·Memᴰ·tail (found .listed); within = found .within }

@@ -41,12 +41,16 @@ areas-passed area len work other x e =
       passed-on (ltb (length area) len) 3 other x e₃,
     )
 
+-- what 1, 2 and 3 pass on is refused of an area of at most 16,384 bytes
 pub areas-refused :
     {X : Type 0} (area : List ℕ) (len : ℕ) (work : List ℕ) (other : Reply X) (numbers : List ℕ) (most n p : ℕ) →
-    (other ≡ Reply.refused n p → Listed numbers most n p) → refusedAreas area len work other ≡ Reply.refused n p → Listed (1 ∷ 2 ∷ 3 ∷ numbers) most n p
+    (length area ≤ 16384 → other ≡ Reply.refused n p → Listed numbers most n p) →
+    refusedAreas area len work other ≡ Reply.refused n p → Listed (1 ∷ 2 ∷ 3 ∷ numbers) most n p
 areas-refused area len work other numbers most n p rest =
     refused-by (ltb 16384 (length area)) 1 n p _ (2 ∷ 3 ∷ numbers) most
-    (refused-by (ltb (length work) (length area)) 2 n p _ (3 ∷ numbers) most (refused-by (ltb (length area) len) 3 n p other numbers most rest))
+    (λ short.
+    refused-by (ltb (length work) (length area)) 2 n p _ (3 ∷ numbers) most
+    (λ room. refused-by (ltb (length area) len) 3 n p other numbers most (λ within. rest (ltb-false 16384 (length area) short))))
 
 -- the term in the area is one
 pub held-unique : (area : List ℕ) (len : ℕ) (t u : Term) → Holds area len t → Holds area len u → t ≡ u
@@ -76,13 +80,15 @@ answers area work t = go (next t) refl
 -- a call of stepping: refused with the areas as they were, or answered
 pub data Call (area : List ℕ) (len : ℕ) (work : List ℕ) : After → Type 0 where
   refused :
-      {number place : ℕ} → Listed (1 ∷ 2 ∷ 3 ∷ 5 ∷ 6 ∷ 7 ∷ []) (length area) number place →
+      {number place : ℕ} → Listed (1 ∷ 2 ∷ 3 ∷ 5 ∷ 6 ∷ 7 ∷ []) 16384 number place →
       Call area len work (After.after (Reply.refused number place) area work)
   made : {after : After} (t : Term) → Areas area len work → Holds area len t → Answers area work t after → Call area len work after
 
 -- a place within the term is within the area
-pub within-area : (area : List ℕ) (len n p : ℕ) → Listed (5 ∷ 6 ∷ 7 ∷ []) (length (take len area)) n p → Listed (5 ∷ 6 ∷ 7 ∷ []) (length area) n p
-within-area area len n p found = record { listed = found .listed; within = omega (arith, found .within, length-take len area) }
+pub within-area :
+    (area : List ℕ) (len n p : ℕ) →
+    length area ≤ 16384 → Listed (5 ∷ 6 ∷ 7 ∷ []) (length (take len area)) n p → Listed (5 ∷ 6 ∷ 7 ∷ []) 16384 n p
+within-area area len n p short found = record { listed = found .listed; within = omega (arith, found .within, length-take len area) }
 
 pub call : (area : List ℕ) (len : ℕ) (work : List ℕ) → Call area len work (steppingOf area len work)
 unfolding steppingOf
@@ -91,8 +97,8 @@ call area len work = go (admitted area len work) refl
     go : (x : Reply Term) → admitted area len work ≡ x → Call area len work (stepAdmitted x area work)
     go (Reply.refused n p) e =
         Call.refused
-        (areas-refused area len work (termRead (take len area)) (5 ∷ 6 ∷ 7 ∷ []) (length area) n p
-        (λ f. within-area area len n p (term-refused (take len area) n p f))
+        (areas-refused area len work (termRead (take len area)) (5 ∷ 6 ∷ 7 ∷ []) 16384 n p
+        (λ short f. within-area area len n p short (term-refused (take len area) n p f))
         e)
     go (Reply.answered t) e =
         let (areas, read) = areas-passed area len work (termRead (take len area)) t e in
