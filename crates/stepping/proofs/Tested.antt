@@ -2,7 +2,7 @@
 -- those tested picks the last case. Assumes nothing.
 use Prim.Native.Nat.{ℕ, _+_, _≤_}
 use native.Mathlib.Omega.{arith}
-use mathlib.Core.Path.{_≡_, refl, sym, _∙_, ap}
+use mathlib.Core.Path.{_≡_, refl, sym, _∙_, ap, ap₂}
 use mathlib.Core.List.{List}
 use mathlib.Core.Option.{Option, none, some}
 use lib.ListN.{length, getD}
@@ -10,7 +10,7 @@ use Rattle.calculus.specs.Letter.{Letter, byte, letterOf}
 use Rattle.calculus.proofs.PrefixCode.{letterOf-byte, byte-letterOf}
 use Rattle.stepping.specs.Skip.{endAt}
 use Rattle.stepping.specs.declared.rewrite.Rewrite.{Rewrite}
-use Rattle.stepping.specs.Rewriting.{doubled, entered, onPair, pairOf, onFunction, rewriteOf}
+use Rattle.stepping.specs.Rewriting.{entered, onPair, pairOf, onFunction, rewriteOf}
 
 -- the case of a letter is that of its byte
 pub by-letter : (f : Option Letter → Rewrite) (b : ℕ) (l : Letter) → b ≡ byte l → f (some l) ≡ f (letterOf b)
@@ -33,11 +33,22 @@ module _ (b : ℕ) (no-J : b ≡ byte Letter.J → ⊥) (no-R : b ≡ byte Lette
       go (some Letter.B) e = p
       go (some Letter.stop) e = q
 
-  pub by-others-on-pair : (p mid end third : ℕ) → doubled 11 p (byte Letter.B) p end third ≡ onPair (letterOf b) p mid end third
-  by-others-on-pair p mid end third = by-others (λ (o : Option Letter). onPair o p mid end third) (doubled 11 p (byte Letter.B) p end third) refl refl refl
-
-  pub by-others-on-function : (s : List ℕ) (p : ℕ) → pairOf s p ≡ onFunction (letterOf b) s p
+  by-others-on-function : (s : List ℕ) (p : ℕ) → pairOf s p ≡ onFunction (letterOf b) s p
   by-others-on-function s p = by-others (λ (o : Option Letter). onFunction o s p) (pairOf s p) refl refl refl
+
+-- the first letter of the argument picks what a pair's rule makes of the text
+module _ (s : List ℕ) (p mid end third : ℕ) (e : third ≡ endAt s (end + 1)) (b : ℕ) (q : b ≡ getD s end 0) where
+  same-pair : onPair (letterOf b) p mid end third ≡ onPair (letterOf (getD s end 0)) p mid end (endAt s (end + 1))
+  same-pair = ap₂ (λ (c k : ℕ). onPair (letterOf c) p mid end k) q e
+
+  pub pair-letter : (l : Letter) → b ≡ byte l → onPair (some l) p mid end third ≡ onPair (letterOf (getD s end 0)) p mid end (endAt s (end + 1))
+  pair-letter l n = by-letter (λ (o : Option Letter). onPair o p mid end third) b l n ∙ same-pair
+
+  pub pair-others :
+      (b ≡ byte Letter.J → ⊥) → (b ≡ byte Letter.R → ⊥) → (b ≡ byte Letter.H → ⊥) → (b ≡ byte Letter.A → ⊥) → (b ≡ byte Letter.I → ⊥) →
+      onPair (some Letter.B) p mid end third ≡ onPair (letterOf (getD s end 0)) p mid end (endAt s (end + 1))
+  pair-others j r h a i =
+      by-others b j r h a i (λ (o : Option Letter). onPair o p mid end third) (onPair (some Letter.B) p mid end third) refl refl refl ∙ same-pair
 
 -- the function's letter picks what the rule makes of the text
 pub rewrite-letter : (s : List ℕ) (p : ℕ) (l : Letter) → getD s (p + 1) 0 ≡ byte l → onFunction (some l) s p ≡ rewriteOf s p
@@ -61,5 +72,7 @@ pair-of s p mid end m e =
     ∙ ap (λ (k : ℕ). onPair (letterOf (getD s (endAt s k) 0)) p k (endAt s k) (endAt s (endAt s k + 1))) m
 
 pub closure-of :
-    (s : List ℕ) (p mid end : ℕ) → mid ≡ endAt s (p + 2) → end ≡ endAt s mid → entered p end (endAt s end) ≡ onFunction (some Letter.A) s p
-closure-of s p mid end m e = ap (λ (k : ℕ). entered p k (endAt s k)) (e ∙ ap (endAt s) m)
+    (s : List ℕ) (p mid end third : ℕ) →
+    mid ≡ endAt s (p + 2) → end ≡ endAt s mid → third ≡ endAt s end → entered p end third ≡ onFunction (some Letter.A) s p
+closure-of s p mid end third m e t =
+    ap (entered p end) t ∙ ap (λ (k : ℕ). entered p k (endAt s k)) (e ∙ ap (endAt s) m)

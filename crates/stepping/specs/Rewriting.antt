@@ -9,10 +9,13 @@ use Rattle.slices.specs.Part.{part}
 use Rattle.stepping.specs.Skip.{endAt}
 use Rattle.stepping.specs.declared.rewrite.Rewrite.{Rewrite}
 
+abbrev pub rewriteBy : (rule keep letter from to since until again rest : ℕ) → Rewrite
+rewriteBy rule keep letter from to since until again rest =
+    record { rule = rule; keep = keep; letter = letter; from = from; to = to; since = since; until = until; again = again; rest = rest }
+
 -- a letter and one part
 abbrev pub onePart : (rule keep letter from to rest : ℕ) → Rewrite
-onePart rule keep letter from to rest =
-    record { rule = rule; keep = keep; letter = letter; from = from; to = to; since = 0; until = 0; again = 0; rest = rest }
+onePart rule keep letter from to rest = rewriteBy rule keep letter from to 0 0 0 rest
 
 -- rules 1 to 3: the full stop becomes H
 abbrev pub frozen : (rule p : ℕ) → Rewrite
@@ -20,13 +23,11 @@ frozen rule p = onePart rule p (byte Letter.H) 0 0 (p + 1)
 
 -- rule 4: behind the full stop B, the argument, and the two parts of the closure
 abbrev pub entered : (p end third : ℕ) → Rewrite
-entered p end third =
-    record { rule = 4; keep = p + 1; letter = byte Letter.B; from = end; to = third; since = p + 2; until = end; again = 0; rest = third }
+entered p end third = rewriteBy 4 (p + 1) (byte Letter.B) end third (p + 2) end 0 third
 
 -- rules 8 and 11: a letter, the pair on the first part of the argument, and the pair on the second
 abbrev pub doubled : (rule keep letter p end third : ℕ) → Rewrite
-doubled rule keep letter p end third =
-    record { rule = rule; keep = keep; letter = letter; from = p; to = end; since = end + 1; until = third; again = end; rest = third }
+doubled rule keep letter p end third = rewriteBy rule keep letter p end (end + 1) third end third
 
 -- rules 6 to 11, by the first letter of the pair's argument
 abbrev pub onPair : Option Letter → (p mid end third : ℕ) → Rewrite

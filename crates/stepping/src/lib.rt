@@ -59,8 +59,8 @@ fn put_back(area: &mut [u8], size: usize, work: &mut [u8])
 
 // One step of the term in the first `len` bytes, or what keeps it from one.
 fn advance(area: &mut [u8], len: usize, work: &mut [u8]) -> Stepping
-    requires { ⌜ len ≤ length (now area) ⌝ }
-    ensures { λ r. ⌜ ((h : Holds (now (area .entry)) len) → length (now (area .entry)) ≤ length (now (work .entry))
+    requires { ⌜ (len ≤ length (now area)) × (length (now area) ≤ length (now work)) ⌝ }
+    ensures { λ r. ⌜ ((h : Holds (now (area .entry)) len)
         → After.after (answerOf r) (now (area .exit)) (now (work .exit))
         ≡ stepNext (h .term) (next (h .term)) (now (area .entry)) (now (work .entry))) ⌝ }
 {

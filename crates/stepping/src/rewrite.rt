@@ -10,7 +10,7 @@ ghost use Rattle.calculus.specs.Letter.{letterOf};
 ghost use Rattle.slices.specs.Put.{put, behind};
 ghost use Rattle.slices.specs.Wrote.{Wrote};
 ghost use Rattle.stepping.specs.Skip.{endAt};
-ghost use Rattle.stepping.specs.Rewriting.{onePart, doubled, entered, onPair, rewriteOf, letterText, rewritten};
+ghost use Rattle.stepping.specs.Rewriting.{rewriteBy, onePart, onPair, rewriteOf, letterText, rewritten};
 
 // What a rule makes of a text: the bytes before `keep`, a letter (0 for none), the parts `from..to` and `since..until`, the part
 // `from..again` (empty but for rules 8 and 11), and the bytes from `rest` on.
@@ -26,9 +26,18 @@ pub(crate) struct Rewrite {
     pub rest: usize,
 }
 
-// A letter and one part.
-fn one_part(rule: u8, keep: usize, letter: u8, from: usize, to: usize, rest: usize) -> Rewrite
-    ensures { λ r. ⌜ r ≡ onePart rule keep letter from to rest ⌝ }
+fn made(
+    rule: u8,
+    keep: usize,
+    letter: u8,
+    from: usize,
+    to: usize,
+    since: usize,
+    until: usize,
+    again: usize,
+    rest: usize,
+) -> Rewrite
+    ensures { λ r. ⌜ r ≡ rewriteBy rule keep letter from to since until again rest ⌝ }
 {
     Rewrite {
         rule: rule,
@@ -36,49 +45,18 @@ fn one_part(rule: u8, keep: usize, letter: u8, from: usize, to: usize, rest: usi
         letter: letter,
         from: from,
         to: to,
-        since: 0,
-        until: 0,
-        again: 0,
+        since: since,
+        until: until,
+        again: again,
         rest: rest,
     }
 }
 
-// Rule 4: the closure at p + 1 ends at `end`, where its argument begins.
-fn closure_at(s: &[u8], p: usize, end: usize) -> Rewrite
-    requires { ⌜ p < length (now s) ⌝ }
-    ensures { λ r. ⌜ r ≡ entered p end (endAt (now (s .entry)) end) ⌝ }
+// A letter and one part.
+fn one_part(rule: u8, keep: usize, letter: u8, from: usize, to: usize, rest: usize) -> Rewrite
+    ensures { λ r. ⌜ r ≡ onePart rule keep letter from to rest ⌝ }
 {
-    let third = part_end(s, end);
-    Rewrite {
-        rule: 4,
-        keep: p + 1,
-        letter: b'B',
-        from: end,
-        to: third,
-        since: p + 2,
-        until: end,
-        again: 0,
-        rest: third,
-    }
-}
-
-// Rules 8 and 11: the pair at p + 1 ends at `end`, and so does the letter of its argument at `end` + 1.
-fn double_at(s: &[u8], rule: u8, keep: usize, letter: u8, p: usize, end: usize) -> Rewrite
-    requires { ⌜ end ≤ length (now s) + 1 ⌝ }
-    ensures { λ r. ⌜ r ≡ doubled rule keep letter p end (endAt (now (s .entry)) (end + 1)) ⌝ }
-{
-    let third = part_end(s, end + 1);
-    Rewrite {
-        rule: rule,
-        keep: keep,
-        letter: letter,
-        from: p,
-        to: end,
-        since: end + 1,
-        until: third,
-        again: end,
-        rest: third,
-    }
+    made(rule, keep, letter, from, to, 0, 0, 0, rest)
 }
 
 // Rules 6 to 11: the parts of the pair at p + 1 end at `mid` and at `end`, where its argument begins.
@@ -87,22 +65,24 @@ fn pair_at(s: &[u8], p: usize, mid: usize, end: usize) -> Rewrite
     ensures { λ r. ⌜ r ≡ onPair (letterOf (getD (now (s .entry)) end 0)) p mid end (endAt (now (s .entry)) (end + 1)) ⌝ }
 {
     let head = byte_at(s, end);
+    let inner = end + 1;
     if head == b'J' {
-        return one_part(6, p, 0, p + 2, mid, end + 1);
+        return one_part(6, p, 0, p + 2, mid, inner);
     }
     if head == b'R' {
-        return one_part(7, p + 1, 0, mid, end, end + 1);
-    }
-    if head == b'H' {
-        return double_at(s, 8, p + 1, 0, p, end);
-    }
-    if head == b'A' {
-        return one_part(9, p, b'A', p, end, end + 1);
+        return one_part(7, p + 1, 0, mid, end, inner);
     }
     if head == b'I' {
         return one_part(10, p, 0, 0, 0, end);
     }
-    double_at(s, 11, p, b'B', p, end)
+    let third = part_end(s, inner);
+    if head == b'H' {
+        return made(8, p + 1, 0, p, end, inner, third, end, third);
+    }
+    if head == b'A' {
+        return made(9, p, b'A', p, end, 0, 0, 0, inner);
+    }
+    made(11, p, b'B', p, end, inner, third, end, third)
 }
 
 // What the rule that applies at `p` makes of the text.
@@ -126,7 +106,8 @@ pub(crate) fn rewrite_at(s: &[u8], p: usize) -> Rewrite
     let mid = part_end(s, p + 2);
     let end = part_end(s, mid);
     if head == b'A' {
-        return closure_at(s, p, end);
+        let third = part_end(s, end);
+        return made(4, p + 1, b'B', end, third, p + 2, end, 0, third);
     }
     pair_at(s, p, mid, end)
 }

@@ -18,7 +18,7 @@ same-length-2 : tie.Need-same-length-2
 same-length-2 c = search needs
 
 returns : tie.Need-returns
-returns c = λ h m. after-normal h (c .before .before .before .before .before .before .before .before .before .before .before .before .args .work .now) (c .before .before .before .before .before .before .before .before .redex .ensures .1 h) (c .before .before .before .before .before .before .before .if1 .taken) (c .before .before .before .before .clear .ensures .0) (c .before .before .before .before .clear .ensures .1)
+returns c = λ h. after-normal h (c .before .before .before .before .before .before .before .before .before .before .before .before .args .work .now) (c .before .before .before .before .before .before .before .before .redex .ensures .1 h) (c .before .before .before .before .before .before .before .if1 .taken) (c .before .before .before .before .clear .ensures .0) (c .before .before .before .before .clear .ensures .1)
 
 rewrite-at-requires : tie.Need-rewrite-at-requires
 rewrite-at-requires c κs = c .before .before .redex .ensures .0 (c .before .if1 .left)
@@ -39,7 +39,7 @@ same-length-4 : tie.Need-same-length-4
 same-length-4 c = search needs
 
 returns-2 : tie.Need-returns-2
-returns-2 c = λ h m. after-no-room h (c .before .before .before .before .before .before .before .before .before .before .before .before .before .before .before .before .args .work .now) (subst (Makes (h .term) (c .before .before .before .before .before .before .before .before .before .before .before .before .before .before .before .before .args .area .now) (c .before .before .before .before .before .before .before .before .before .before .before .before .before .before .before .before .args .len)) (sym (c .before .before .before .before .before .before .before .before .before .rewrite-at .ensures)) (found-makes h (c .before .before .before .before .before .before .before .before .before .before .before .before .redex .ensures .1 h) (c .before .before .before .before .before .before .before .before .before .before .before .if1 .left))) (c .before .before .before .before .before .before .before .before .growth .ensures) (c .before .before .before .before .before .before .before .before .before .before .before .before .before .before .before .before .pre) (c .before .before .before .before .before .before .before .if2 .taken) (c .before .before .before .before .clear2 .ensures .0) (c .before .before .before .before .clear2 .ensures .1)
+returns-2 c = λ h. after-no-room h (c .before .before .before .before .before .before .before .before .before .before .before .before .before .before .before .before .args .work .now) (subst (Makes (h .term) (c .before .before .before .before .before .before .before .before .before .before .before .before .before .before .before .before .args .area .now) (c .before .before .before .before .before .before .before .before .before .before .before .before .before .before .before .before .args .len)) (sym (c .before .before .before .before .before .before .before .before .before .rewrite-at .ensures)) (found-makes h (c .before .before .before .before .before .before .before .before .before .before .before .before .redex .ensures .1 h) (c .before .before .before .before .before .before .before .before .before .before .before .if1 .left))) (c .before .before .before .before .before .before .before .before .growth .ensures) (c .before .before .before .before .before .before .before .before .before .before .before .before .before .before .before .before .pre .0) (c .before .before .before .before .before .before .before .if2 .taken) (c .before .before .before .before .clear2 .ensures .0) (c .before .before .before .before .clear2 .ensures .1)
 
 write-requires : tie.Need-write-requires
 write-requires c κs = search needs
@@ -54,7 +54,7 @@ same-length-6 : tie.Need-same-length-6
 same-length-6 c = search needs
 
 returns-3 : tie.Need-returns-3
-returns-3 c = λ h m. after-step h (c .before .before .before .before .before .before .before .before .before .before .before .before .before .before .before .before .before .before .before .before .before .args .work .now) (subst (Makes (h .term) (c .before .before .before .before .before .before .before .before .before .before .before .before .before .before .before .before .before .before .before .before .before .args .area .now) (c .before .before .before .before .before .before .before .before .before .before .before .before .before .before .before .before .before .before .before .before .before .args .len)) (sym (c .before .before .before .before .before .before .before .before .before .before .before .before .before .before .rewrite-at .ensures)) (found-makes h (c .before .before .before .before .before .before .before .before .before .before .before .before .before .before .before .before .before .redex .ensures .1 h) (c .before .before .before .before .before .before .before .before .before .before .before .before .before .before .before .before .if1 .left))) (c .before .before .before .before .before .before .before .before .before .before .before .before .before .growth .ensures) (c .before .before .before .before .before .before .before .before .before .before .before .before .before .before .before .before .before .before .before .before .before .pre) (c .before .before .before .before .before .before .before .before .before .before .before .before .if2 .left) m (c .before .before .before .before .before .before .before .before .before .write .ensures) (c .before .before .before .before .put-back .ensures .0) (c .before .before .before .before .put-back .ensures .1)
+returns-3 c = λ h. after-step h (c .before .before .before .before .before .before .before .before .before .before .before .before .before .before .before .before .before .before .before .before .before .args .work .now) (subst (Makes (h .term) (c .before .before .before .before .before .before .before .before .before .before .before .before .before .before .before .before .before .before .before .before .before .args .area .now) (c .before .before .before .before .before .before .before .before .before .before .before .before .before .before .before .before .before .before .before .before .before .args .len)) (sym (c .before .before .before .before .before .before .before .before .before .before .before .before .before .before .rewrite-at .ensures)) (found-makes h (c .before .before .before .before .before .before .before .before .before .before .before .before .before .before .before .before .before .redex .ensures .1 h) (c .before .before .before .before .before .before .before .before .before .before .before .before .before .before .before .before .if1 .left))) (c .before .before .before .before .before .before .before .before .before .before .before .before .before .growth .ensures) (c .before .before .before .before .before .before .before .before .before .before .before .before .before .before .before .before .before .before .before .before .before .pre .0) (c .before .before .before .before .before .before .before .before .before .before .before .before .if2 .left) (c .before .before .before .before .before .before .before .before .before .before .before .before .before .before .before .before .before .before .before .before .before .pre .1) (c .before .before .before .before .before .before .before .before .before .write .ensures) (c .before .before .before .before .put-back .ensures .0) (c .before .before .before .before .put-back .ensures .1)
 
 pub advance-spec : {M : Type 1} → statement M
 advance-spec =

@@ -57,7 +57,7 @@ returns-4 : tie.Need-returns-4
 returns-4 c = unread (c .before .before .before .before .before .before .before .before .args .area .now) (c .before .before .before .before .before .before .before .before .args .len) (c .before .before .before .before .before .before .before .before .args .work .now) (c .before .before .before .before .before .if1 .left) (c .before .before .before .before .if2 .left) (c .before .before .before .if3 .left) (c .before .read .result) (c .before .read .ensures) (c .match .keys2)
 
 advance-requires : tie.Need-advance-requires
-advance-requires c κs = reading-answered (c .before .before .before .before .before .before .before .before .before .before .before .before .args .area .now) (c .before .before .before .before .before .before .before .before .before .before .before .before .args .len) (c .before .before .before .before .before .before .before .before .before .before .before .before .args .work .now) (c .before .before .before .before .before .before .before .before .before .if1 .left) (c .before .before .before .before .before .before .before .before .if2 .left) (c .before .before .before .before .before .before .before .if3 .left) (c .before .before .before .reading .given .0 .0) (ap readingAnswer (sym (c .before .before .before .reading .given .1)) ∙ c .before .before .before .before .before .read .ensures) .1
+advance-requires c κs = (reading-answered (c .before .before .before .before .before .before .before .before .before .before .before .before .args .area .now) (c .before .before .before .before .before .before .before .before .before .before .before .before .args .len) (c .before .before .before .before .before .before .before .before .before .before .before .before .args .work .now) (c .before .before .before .before .before .before .before .before .before .if1 .left) (c .before .before .before .before .before .before .before .before .if2 .left) (c .before .before .before .before .before .before .before .if3 .left) (c .before .before .before .reading .given .0 .0) (ap readingAnswer (sym (c .before .before .before .reading .given .1)) ∙ c .before .before .before .before .before .read .ensures) .1, c .before .before .before .before .before .before .before .before .if2 .left)
 
 same-length-2 : tie.Need-same-length-2
 same-length-2 c = search needs
@@ -68,7 +68,7 @@ same-length-3 c = search needs
 returns-5 : tie.Need-returns-5
 returns-5 c =
     let read = reading-answered (c .before .before .before .before .before .before .before .before .before .before .before .before .before .before .before .before .before .args .area .now) (c .before .before .before .before .before .before .before .before .before .before .before .before .before .before .before .before .before .args .len) (c .before .before .before .before .before .before .before .before .before .before .before .before .before .before .before .before .before .args .work .now) (c .before .before .before .before .before .before .before .before .before .before .before .before .before .before .if1 .left) (c .before .before .before .before .before .before .before .before .before .before .before .before .before .if2 .left) (c .before .before .before .before .before .before .before .before .before .before .before .before .if3 .left) (c .before .before .before .before .before .before .before .before .reading .given .0 .0) (ap readingAnswer (sym (c .before .before .before .before .before .before .before .before .reading .given .1)) ∙ c .before .before .before .before .before .before .before .before .before .before .read .ensures) in
-    c .before .before .before .before .advance .ensures (read .0) (c .before .before .before .before .before .before .before .before .before .before .before .before .before .if2 .left) ∙ sym (read .2)
+    c .before .before .before .before .advance .ensures (read .0) ∙ sym (read .2)
 
 pub step-spec : {M : Type 1} → statement M
 step-spec =

@@ -61,17 +61,38 @@ part-end-requires c κs = search needs
 part-end-requires-2 : tie.Need-part-end-requires-2
 part-end-requires-2 c κs = search needs
 
-closure-at-requires : tie.Need-closure-at-requires
-closure-at-requires c κs = search needs
+part-end-requires-3 : tie.Need-part-end-requires-3
+part-end-requires-3 c κs = search needs
+
+add-made : tie.Need-add-made
+add-made c = search needs
+
+add-made-2 : tie.Need-add-made-2
+add-made-2 c = search needs
+
+made-requires : tie.Need-made-requires
+made-requires c κs = search needs
 
 returns-5 : tie.Need-returns-5
-returns-5 c = c .closure-at .ensures ∙ closure-of (c .before .before .before .before .before .before .before .before .before .before .args .s .now) (c .before .before .before .before .before .before .before .before .before .before .args .p) (c .before .before .before .part-end .result) (c .before .before .part-end2 .result) (c .before .before .before .part-end .ensures) (c .before .before .part-end2 .ensures) ∙ rewrite-letter (c .before .before .before .before .before .before .before .before .before .before .args .s .now) (c .before .before .before .before .before .before .before .before .before .before .args .p) Letter.A (sym (c .before .before .before .before .before .before .before .before .byte-at .ensures) ∙ c .before .if5 .taken)
+returns-5 c =
+    let a = c .before .before .before .before .before .before .before .before .before .before .before .args in
+    c .made .ensures
+    ∙ closure-of (a .s .now) (a .p) (c .before .before .before .before .part-end .result) (c .before .before .before .part-end2 .result) (c .before .part-end3 .result) (c .before .before .before .before .part-end .ensures) (c .before .before .before .part-end2 .ensures) (c .before .part-end3 .ensures)
+    ∙ rewrite-letter (a .s .now) (a .p) Letter.A (sym (c .before .before .before .before .before .before .before .before .before .byte-at .ensures) ∙ c .before .before .if5 .taken)
 
 pair-at-requires : tie.Need-pair-at-requires
-pair-at-requires c κs = let a = c .before .before .before .before .before .before .before .before .before .args in let first : c .before .before .part-end .result ≤ length (a .s .now) + 1 = end-below (a .s .now) (a .p + 2) (c .before .before .part-end .result) (length (a .s .now) + 1) (c .before .before .part-end .ensures) (omega arith) (omega arith) in (c .before .before .before .before .before .before .before .before .before .pre, end-below (a .s .now) (c .before .before .part-end .result) (c .before .part-end2 .result) (length (a .s .now) + 1) (c .before .part-end2 .ensures) first (omega arith))
+pair-at-requires c κs =
+    let a = c .before .before .before .before .before .before .before .before .before .args in
+    let bound = length (a .s .now) + 1 in
+    let first : c .before .before .part-end .result ≤ bound = end-below (a .s .now) (a .p + 2) (c .before .before .part-end .result) bound (c .before .before .part-end .ensures) (omega arith) (omega arith) in
+    (c .before .before .before .before .before .before .before .before .before .pre, end-below (a .s .now) (c .before .before .part-end .result) (c .before .part-end2 .result) bound (c .before .part-end2 .ensures) first (omega arith))
 
 returns-6 : tie.Need-returns-6
-returns-6 c = c .pair-at .ensures ∙ pair-of (c .before .before .before .before .before .before .before .before .before .before .args .s .now) (c .before .before .before .before .before .before .before .before .before .before .args .p) (c .before .before .before .part-end .result) (c .before .before .part-end2 .result) (c .before .before .before .part-end .ensures) (c .before .before .part-end2 .ensures) ∙ rewrite-others (c .before .before .before .before .before .before .before .before .before .before .args .s .now) (c .before .before .before .before .before .before .before .before .before .before .args .p) (c .before .before .before .before .before .before .before .before .byte-at .result) (c .before .before .before .before .before .before .before .before .byte-at .ensures) (c .before .before .before .before .before .before .before .if1 .left) (c .before .before .before .before .before .before .if2 .left) (c .before .before .before .before .before .if3 .left) (c .before .if5 .left) (c .before .before .before .before .if4 .left)
+returns-6 c =
+    let a = c .before .before .before .before .before .before .before .before .before .before .args in
+    c .pair-at .ensures
+    ∙ pair-of (a .s .now) (a .p) (c .before .before .before .part-end .result) (c .before .before .part-end2 .result) (c .before .before .before .part-end .ensures) (c .before .before .part-end2 .ensures)
+    ∙ rewrite-others (a .s .now) (a .p) (c .before .before .before .before .before .before .before .before .byte-at .result) (c .before .before .before .before .before .before .before .before .byte-at .ensures) (c .before .before .before .before .before .before .before .if1 .left) (c .before .before .before .before .before .before .if2 .left) (c .before .before .before .before .before .if3 .left) (c .before .if5 .left) (c .before .before .before .before .if4 .left)
 
 pub rewrite-at-spec : {M : Type 1} → statement M
 rewrite-at-spec =
@@ -94,7 +115,10 @@ rewrite-at-spec =
     add-part-end
     part-end-requires
     part-end-requires-2
-    closure-at-requires
+    part-end-requires-3
+    add-made
+    add-made-2
+    made-requires
     returns-5
     pair-at-requires
     returns-6)
