@@ -1,0 +1,111 @@
+-- `finishing::run_term` meets its contract. The loop's invariant is `At`: the area holds a term that the run of the first passes, with
+-- `count` steps made. The measure is the fuel left. Assumes nothing.
+use Prim.Native.Nat.{_-_}
+use mathlib.Core.Path.{_≡_, refl, sym, _∙_}
+use borrow.Author.Needs.{needs}
+use lib.ListN.{length}
+use lib.Seq.{length-take-le}
+use Rattle.finishing.proofs.Turns.{At, at-start, at-step, at-no-room, at-normal, at-stop, at-no-stop}
+use Rattle.finishing.proofs.run_term.Statement.{statement}
+use Rattle.finishing.proofs.run_term.Tie as tie
+
+abbrev Inv-loop : tie.InvT-loop
+Inv-loop area₀ len work₀ fuel size₀ count₀ area work size count = At fuel area₀ len count area size work × (length work ≡ length work₀)
+
+abbrev μ-loop : tie.MeasureT-loop
+μ-loop area₀ len work₀ fuel size₀ count₀ area work size count = fuel - count
+
+loop-holds : tie.Need-loop-holds Inv-loop μ-loop
+loop-holds c = (at-start (c .before .before .args .fuel) (c .before .before .args .area .now) (c .before .before .args .len) (c .before .before .args .work .now) (c .before .before .pre), refl)
+
+step-once-requires : tie.Need-step-once-requires Inv-loop μ-loop
+step-once-requires c κs = c .before .before .before .loop .inv .0 .ready
+
+enum-told : tie.Need-enum-told Inv-loop μ-loop
+enum-told c = search needs
+
+same-length : tie.Need-same-length Inv-loop μ-loop
+same-length c = search needs
+
+same-length-2 : tie.Need-same-length-2 Inv-loop μ-loop
+same-length-2 c = search needs
+
+returns : tie.Need-returns Inv-loop μ-loop
+returns c = at-no-room (c .before .before .before .before .before .before .before .before .before .before .loop .inv .0) (c .before .before .before .before .before .before .step-once .result) (c .before .before .before .before .before .before .before .before .before .loop-test .taken) (c .before .before .before .before .before .before .step-once .ensures) (c .before .match .keys1)
+
+enum-known-stepping : tie.Need-enum-known-stepping Inv-loop μ-loop
+enum-known-stepping c = search needs
+
+same-length-3 : tie.Need-same-length-3 Inv-loop μ-loop
+same-length-3 c = search needs
+
+same-length-4 : tie.Need-same-length-4 Inv-loop μ-loop
+same-length-4 c = search needs
+
+returns-2 : tie.Need-returns-2 Inv-loop μ-loop
+returns-2 c = at-normal (c .before .before .before .before .before .before .before .before .before .before .loop .inv .0) (c .before .before .before .before .before .before .step-once .result) (c .before .before .before .before .before .before .before .before .before .loop-test .taken) (c .before .before .before .before .before .before .step-once .ensures) (c .before .match .keys2) (c .match2 .keys2)
+
+add-count : tie.Need-add-count Inv-loop μ-loop
+add-count c = search needs
+
+loop-less : tie.Need-loop-less Inv-loop μ-loop
+loop-less c = search needs
+
+loop-again : tie.Need-loop-again Inv-loop μ-loop
+loop-again c = (at-step (c .before .before .before .before .before .before .before .before .before .before .before .before .loop .inv .0) (c .before .before .before .before .before .before .before .before .step-once .result) (c .before .before .before .before .before .before .before .before .before .before .before .loop-test .taken) (c .before .before .before .before .before .before .before .before .step-once .ensures) (c .before .stepping .given .0 .0) (c .before .stepping .given .0 .1 .0) (c .before .before .before .before .before .before .before .before .step-once .last .1 .1 .0) (c .before .stepping .given .1) (c .before .before .before .before .before .before .before .before .step-once .kept .0) (c .before .before .before .before .before .before .before .before .step-once .kept .1 .1 .0), c .before .before .before .before .before .before .before .before .step-once .kept .1 .1 .0 ∙ c .before .before .before .before .before .before .before .before .before .before .before .before .loop .inv .1)
+
+slice-reshare-prefix-has-stop : tie.Need-slice-reshare-prefix-has-stop Inv-loop μ-loop
+slice-reshare-prefix-has-stop c = c .before .loop .inv .0 .ready .held .within
+
+slice-aggregate-has-stop : tie.Need-slice-aggregate-has-stop Inv-loop μ-loop
+slice-aggregate-has-stop c = sym (length-take-le (c .before .before .loop .size) (c .before .before .loop .area) (c .before .before .loop .inv .0 .ready .held .within))
+
+has-stop-requires : tie.Need-has-stop-requires Inv-loop μ-loop
+has-stop-requires c κs = search needs
+
+same-length-5 : tie.Need-same-length-5 Inv-loop μ-loop
+same-length-5 c = search needs
+
+same-length-6 : tie.Need-same-length-6 Inv-loop μ-loop
+same-length-6 c = search needs
+
+returns-3 : tie.Need-returns-3 Inv-loop μ-loop
+returns-3 c = at-stop (c .before .before .before .before .loop .inv .0) (c .before .before .before .loop-test .left) (sym (c .if1 .taken) ∙ c .before .has-stop .ensures)
+
+same-length-7 : tie.Need-same-length-7 Inv-loop μ-loop
+same-length-7 c = search needs
+
+same-length-8 : tie.Need-same-length-8 Inv-loop μ-loop
+same-length-8 c = search needs
+
+returns-4 : tie.Need-returns-4 Inv-loop μ-loop
+returns-4 c = at-no-stop (c .before .before .before .before .loop .inv .0) (sym (c .if1 .left) ∙ c .before .has-stop .ensures)
+
+pub run-term-spec : {M : Type 1} → statement M
+run-term-spec =
+    tie.close
+    (tie.spec
+    Inv-loop
+    μ-loop
+    loop-holds
+    step-once-requires
+    enum-told
+    same-length
+    same-length-2
+    returns
+    enum-known-stepping
+    same-length-3
+    same-length-4
+    returns-2
+    add-count
+    loop-less
+    loop-again
+    slice-reshare-prefix-has-stop
+    slice-aggregate-has-stop
+    has-stop-requires
+    same-length-5
+    same-length-6
+    returns-3
+    same-length-7
+    same-length-8
+    returns-4)

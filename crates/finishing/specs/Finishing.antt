@@ -1,0 +1,48 @@
+-- Finishing. Document 01: "Finishing also takes fuel: 1, 2, 3, then 4 for fuel over 1,000,000, then 5, 6, 7. Then over and over: finished
+-- if the term is normal; else spent if the steps made equal the fuel; else no room if the next term is larger than the area; else one
+-- step. The record that comes back holds the outcome and the count; the area holds the term reached."
+use Prim.Native.Nat.{ℕ}
+use mathlib.Core.List.{List}
+use lib.Dec.{ltb}
+use lib.ListN.{length, take}
+use Rattle.calculus.specs.Term.{Term, size}
+use Rattle.calculus.specs.Run.{Outcome, Run, run, outcome, count, reached}
+use Rattle.reading.specs.Reply.{Reply, refuseIf}
+use Rattle.reading.specs.Reading.{termRead}
+use Rattle.stepping.specs.Areas.{refusedAreas, holding, cleared}
+
+-- the record of a run: its outcome, its count, and the size of the term reached
+pub data Ran : Type 0 where
+  ran : Outcome → (count size : ℕ) → Ran
+
+-- whether the call is refused, the record, and the two areas at exit
+pub data After : Type 0 where
+  after : Reply Unit → Ran → (area work : List ℕ) → After
+
+-- the term to finish, or the refusal
+abbrev pub admitted : (area : List ℕ) (len : ℕ) (work : List ℕ) (fuel : ℕ) → Reply Term
+admitted area len work fuel = refusedAreas area len work (refuseIf (ltb 1000000 fuel) 4 (termRead (take len area)))
+
+-- whether the call is refused
+abbrev pub admission : Reply Term → Reply Unit
+admission (Reply.refused number place) = Reply.refused number place
+admission (Reply.answered t) = Reply.answered tt
+
+abbrev pub recordOf : Term → Run → Ran
+recordOf t r = Ran.ran (outcome r) (count r) (size (reached t r))
+
+-- the record that stands beside a refusal
+abbrev pub noRun : Ran
+noRun = Ran.ran Outcome.spent 0 0
+
+-- the run of t in the areas
+abbrev pub ranFrom : (t : Term) (r : Run) (area work : List ℕ) → After
+ranFrom t r area work = After.after (Reply.answered tt) (recordOf t r) (holding (reached t r) area) (cleared work)
+
+-- a refusal leaves both areas as they are
+abbrev pub finishAdmitted : Reply Term → (area work : List ℕ) (fuel : ℕ) → After
+finishAdmitted (Reply.refused number place) area work fuel = After.after (Reply.refused number place) noRun area work
+finishAdmitted (Reply.answered t) area work fuel = ranFrom t (run fuel (length area) t) area work
+
+unfoldable pub finishingOf : (area : List ℕ) (len : ℕ) (work : List ℕ) (fuel : ℕ) → After
+finishingOf area len work fuel = finishAdmitted (admitted area len work fuel) area work fuel

@@ -1,0 +1,3 @@
+pub mod Finishing
+pub mod Answer
+pub mod Turns

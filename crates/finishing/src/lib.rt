@@ -1,0 +1,169 @@
+// Finishing: the run of the term in a lent area.
+use reading::Reading;
+use stepping::Stepping;
+ghost use mathlib.Core.Path.{_≡_};
+ghost use Prim.Native.Nat.{_≤_, _*_, min};
+ghost use lib.ListN.{length};
+ghost use Rattle.calculus.specs.Term.{Term};
+ghost use Rattle.calculus.specs.Run.{run};
+ghost use Rattle.stepping.specs.Held.{Holds};
+ghost use Rattle.stepping.specs.Answer.{answerOf};
+ghost use Rattle.finishing.specs.Finishing.{After, admitted, admission, finishingOf};
+ghost use Rattle.finishing.specs.Answer.{replyOf, ranOf};
+ghost use Rattle.finishing.specs.Turns.{hasStop, Ready, StepsOn, Reaches};
+
+// Whether a call is refused; specs/Answer.antt gives the number and the place of each case.
+pub enum Admission {
+    // The term area is over 16,384 bytes.
+    AreaTooLong,
+    // The work area is shorter than the term area.
+    WorkTooShort,
+    // The length exceeds the term area.
+    LengthTooLong,
+    // The fuel is over 1,000,000.
+    FuelTooHigh,
+    // What reading refused, unaltered.
+    Unread(Reading),
+    // The call is not refused.
+    Admitted,
+}
+
+// How a run ends.
+pub enum Outcome {
+    Finished,
+    Spent,
+    NoRoom,
+}
+
+// The record of a run: its outcome, the count of steps made, and the size of the term reached.
+pub struct Run {
+    pub outcome: Outcome,
+    pub count: u64,
+    pub size: usize,
+}
+
+// What finishing answers. Beside a refusal the record is spent, 0, 0.
+pub struct Finishing {
+    pub admission: Admission,
+    pub run: Run,
+}
+
+// Whether a call is refused; nothing is written.
+pub fn admit(area: &[u8], len: usize, work: &[u8], fuel: u64) -> Admission
+    ensures { λ r. ⌜ replyOf r ≡ admission (admitted (now (area .entry)) len (now (work .entry)) fuel) ⌝ }
+{
+    if 16384 < area.len() {
+        return Admission::AreaTooLong;
+    }
+    if work.len() < area.len() {
+        return Admission::WorkTooShort;
+    }
+    if area.len() < len {
+        return Admission::LengthTooLong;
+    }
+    if 1000000 < fuel {
+        return Admission::FuelTooHigh;
+    }
+    let reading = reading::read(&area[..len]);
+    let Reading::Whole(_) = reading else {
+        return Admission::Unread(reading);
+    };
+    Admission::Admitted
+}
+
+// How much of an area of `whole` bytes the next term can need: twice the size of the term, at most all of it.
+fn needed(size: usize, whole: usize) -> usize
+    ensures { λ r. ⌜ r ≡ min whole (2 * size) ⌝ }
+{
+    if whole / 2 < size {
+        return whole;
+    }
+    size + size
+}
+
+// Whether a full stop stands among the bytes.
+fn has_stop(s: &[u8]) -> bool
+    ensures { λ r. ⌜ r ≡ hasStop (now (s .entry)) ⌝ }
+{
+    let mut i = 0;
+    while i < s.len() {
+        if s[i] == 46 {
+            return true;
+        }
+        i += 1;
+    }
+    false
+}
+
+// The next step of the term in the first `size` bytes.
+fn step_once(area: &mut [u8], size: usize, work: &mut [u8]) -> Stepping
+    requires { ⌜ Ready (now area) size (now work) ⌝ }
+    ensures { λ r. ⌜ ((t : Term) → Holds (now (area .entry)) size t → StepsOn (now (area .entry)) (now (area .exit)) t (answerOf r)) ⌝ }
+{
+    let n = needed(size, area.len());
+    stepping::step(&mut area[..n], size, &mut work[..n])
+}
+
+// The run of the term in the first `len` bytes; what stands behind the term reached, and in the work area, is left.
+fn run_term(area: &mut [u8], len: usize, work: &mut [u8], fuel: u64) -> Run
+    requires { ⌜ Ready (now area) len (now work) ⌝ }
+    ensures { λ r. ⌜ ((t : Term) → Holds (now (area .entry)) len t
+        → Reaches t (run fuel (length (now (area .entry))) t) (ranOf r) (now (area .exit))) ⌝ }
+{
+    let mut size = len;
+    let mut count: u64 = 0;
+    while count < fuel {
+        let stepping = step_once(area, size, work);
+        if let Stepping::NoRoom(_) = stepping {
+            return Run {
+                outcome: Outcome::NoRoom,
+                count,
+                size,
+            };
+        }
+        let Stepping::Done(_, next) = stepping else {
+            return Run {
+                outcome: Outcome::Finished,
+                count,
+                size,
+            };
+        };
+        size = next;
+        count += 1;
+    }
+    if has_stop(&area[..size]) {
+        return Run {
+            outcome: Outcome::Spent,
+            count,
+            size,
+        };
+    }
+    Run {
+        outcome: Outcome::Finished,
+        count,
+        size,
+    }
+}
+
+// The run of the term in the first `len` bytes of the area; the work area is at least as long as the area.
+pub fn finish(area: &mut [u8], len: usize, work: &mut [u8], fuel: u64) -> Finishing
+    ensures { λ r. ⌜ After.after (replyOf (r .admission)) (ranOf (r .run)) (now (area .exit)) (now (work .exit)) ≡ finishingOf (now (area .entry)) len (now (work .entry)) fuel ⌝ }
+    ensures bounded { λ r. ⌜ r .run .count ≤ fuel ⌝ }
+{
+    let admission = admit(area, len, work, fuel);
+    let Admission::Admitted = admission else {
+        return Finishing {
+            admission,
+            run: Run {
+                outcome: Outcome::Spent,
+                count: 0,
+                size: 0,
+            },
+        };
+    };
+    let run = run_term(area, len, work, fuel);
+    let size = run.size;
+    slices::zero_from(area, size);
+    slices::zero_from(work, 0);
+    Finishing { admission, run }
+}
