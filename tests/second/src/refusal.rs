@@ -1,0 +1,35 @@
+//! A refusal: one of document 01's numbers with its place or line.
+
+#[derive(Clone, Copy, Debug, PartialEq, Eq)]
+pub struct Refusal {
+    pub number: u8,
+    pub place: usize,
+}
+
+pub const AREA_TOO_LARGE: u8 = 1;
+pub const WORK_TOO_SHORT: u8 = 2;
+pub const LENGTH_TOO_LARGE: u8 = 3;
+pub const FUEL_TOO_LARGE: u8 = 4;
+pub const NOT_A_LETTER: u8 = 5;
+pub const NOT_WHOLE: u8 = 6;
+pub const ALREADY_WHOLE: u8 = 7;
+pub const FILE_TOO_LARGE: u8 = 10;
+pub const FILE_EMPTY: u8 = 11;
+pub const NO_LAST_LINE_FEED: u8 = 12;
+pub const TOO_MANY_LINES: u8 = 13;
+pub const NOT_SIX_FIELDS: u8 = 14;
+pub const FIELD_NOT_WELL_FORMED: u8 = 15;
+pub const UNKNOWN_RULE: u8 = 16;
+pub const BAD_PREMISE: u8 = 17;
+pub const NOT_AN_INSTANCE: u8 = 18;
+pub const BAD_LINE_OF_INPUT: u8 = 19;
+
+/// The refusal `number` at `place`.
+pub fn at(number: u8, place: usize) -> Refusal {
+    Refusal { number, place }
+}
+
+/// A refusal without a place of its own answers place 0.
+pub fn without_place(number: u8) -> Refusal {
+    at(number, 0)
+}
