@@ -1,0 +1,211 @@
+//! Checking: the table, generated derivations, and every kind of damage to them.
+
+use crate::damage::*;
+use crate::derivations::{after_step, file_of, some, Derivation, Layout};
+use crate::lent::{agree_check, demand_check};
+use crate::random::Random;
+use crate::reply::{from_words, pack, ACCEPTED};
+use crate::subject::Controller;
+use crate::suite::{Outcome, Suite};
+use crate::table::checking::rows;
+use crate::terms::repeated;
+
+pub const LAYOUTS: [Layout; 4] = [
+    Layout { shared: false, second_first: false },
+    Layout { shared: false, second_first: true },
+    Layout { shared: true, second_first: false },
+    Layout { shared: true, second_first: true },
+];
+
+/// Does the file keep within the limits 10 and 13?
+pub fn within_limits(file: &[u8]) -> bool {
+    file.len() <= 65_536 && lines_of(file) <= 1_024
+}
+
+fn lines_of(file: &[u8]) -> usize {
+    file.iter().filter(|&&byte| byte == b'\n').count()
+}
+
+/// The files of a derivation that keep within the limits, in each layout.
+fn files_of(derivation: &Derivation) -> Vec<Vec<u8>> {
+    LAYOUTS.map(|layout| file_of(derivation, layout)).into_iter().filter(|file| within_limits(file)).collect()
+}
+
+/// Small files to damage: each kind of damage is tried at every line.
+fn small_files(seed: u64, count: usize) -> Vec<Vec<u8>> {
+    let mut random = Random::new(seed);
+    let derivations = some(&mut random, count * 3);
+    let files = derivations.iter().map(|derivation| file_of(derivation, *random.pick(&LAYOUTS)));
+    let small = |file: &Vec<u8>| (2..=24).contains(&lines_of(file)) && file.len() < 2_000;
+    files.filter(small).take(count).collect()
+}
+
+/// Each generated derivation is accepted, in each layout, with its number of lines.
+fn generated(subject: &dyn Controller) -> Outcome {
+    let mut random = Random::new(31);
+    for derivation in some(&mut random, 1_500) {
+        for file in files_of(&derivation) {
+            demand_check(subject, &file, pack(ACCEPTED, lines_of(&file) as u64, 0))?;
+        }
+    }
+    Ok(())
+}
+
+/// Each derivation of a term after a step is accepted with the same context and type.
+fn stepped(subject: &dyn Controller) -> Outcome {
+    let mut random = Random::new(32);
+    for derivation in some(&mut random, 400) {
+        let mut now = derivation;
+        for _ in 0..30 {
+            let Some(next) = after_step(&now) else { break };
+            for file in files_of(&next) {
+                demand_check(subject, &file, pack(ACCEPTED, lines_of(&file) as u64, 0))?;
+            }
+            now = next;
+        }
+    }
+    Ok(())
+}
+
+fn all_agree(subject: &dyn Controller, files: impl IntoIterator<Item = Vec<u8>>) -> Outcome {
+    files.into_iter().try_for_each(|file| agree_check(subject, &file))
+}
+
+fn each_damage(subject: &dyn Controller, damage: fn(&[u8]) -> Vec<Vec<u8>>, count: usize) -> Outcome {
+    small_files(33, count).iter().try_for_each(|file| all_agree(subject, damage(file)))
+}
+
+/// Letters of each field in turn exchanged, put in or left out; fields taken from other lines.
+fn damaged_fields(subject: &dyn Controller) -> Outcome {
+    let mut random = Random::new(34);
+    for file in small_files(34, 150) {
+        for field in 0..6 {
+            for _ in 0..12 {
+                agree_check(subject, &with_field_damaged(&mut random, &file, field))?;
+                agree_check(subject, &with_field_of_other_line(&mut random, &file, field))?;
+            }
+        }
+    }
+    Ok(())
+}
+
+/// Bytes anywhere in the file exchanged, put in or left out.
+fn damaged_bytes(subject: &dyn Controller) -> Outcome {
+    let mut random = Random::new(35);
+    for file in small_files(35, 150) {
+        for _ in 0..60 {
+            agree_check(subject, &damaged(&mut random, &file, b"\t\n-1ab>*JI.A"))?;
+        }
+    }
+    Ok(())
+}
+
+/// A file cut at every byte, and cut there with a line feed behind it.
+fn cut(subject: &dyn Controller) -> Outcome {
+    for file in small_files(36, 12) {
+        for end in 0..file.len() {
+            agree_check(subject, &file[..end])?;
+            agree_check(subject, &[&file[..end], b"\n"].concat())?;
+        }
+    }
+    Ok(())
+}
+
+fn random_bytes(subject: &dyn Controller) -> Outcome {
+    let mut random = Random::new(37);
+    for _ in 0..10_000 {
+        let length = random.below(60);
+        let mut file: Vec<u8> = match random.below(2) {
+            0 => random.rubbish(length),
+            _ => (0..length).map(|_| *random.pick(b"\t\t\t\n-1a*>JI.s")).collect(),
+        };
+        if random.once_in(2) {
+            file.push(b'\n');
+        }
+        agree_check(subject, &file)?;
+    }
+    Ok(())
+}
+
+/// Every rule letter on every line of a file, with every mixture of premises.
+fn rules_and_premises(subject: &dyn Controller) -> Outcome {
+    for file in small_files(38, 25) {
+        let lines = split(&file);
+        let line = lines.len() - 1;
+        for rule in b"JRHfAIBs" {
+            for first in 0..=lines.len() {
+                for second in 0..=lines.len() {
+                    let number = |n: usize| if n == 0 { b"-".to_vec() } else { n.to_string().into_bytes() };
+                    let mut damaged = lines.clone();
+                    damaged[line][3] = vec![*rule];
+                    damaged[line][4] = number(first);
+                    damaged[line][5] = number(second);
+                    agree_check(subject, &join(&damaged))?;
+                }
+            }
+        }
+    }
+    Ok(())
+}
+
+/// Line X_1 is `I`; line X_(n+1) is the application of X_n to itself, by rule s in the empty context.
+pub fn doubling(lines: usize) -> Vec<u8> {
+    let mut file = b"1\tI\t1\tI\t-\t-\n".to_vec();
+    let mut term = b"I".to_vec();
+    for line in 2..=lines {
+        term = [b".", &term[..], &term[..]].concat();
+        file.extend([b"1\t", &term[..], format!("\t1\ts\t{0}\t{0}\n", line - 1).as_bytes()].concat());
+    }
+    file
+}
+
+/// Terms that double from line to line, whole and with one letter of the last exchanged.
+fn large_terms(subject: &dyn Controller) -> Outcome {
+    let file = doubling(14);
+    demand_check(subject, &file, from_words("accepted 14", 0))?;
+    let last = file.len() - 12;
+    for place in [last, last - 1, last - 5_000, last - 16_381] {
+        let mut damaged = file.clone();
+        damaged[place] = if damaged[place] == b'I' { b'J' } else { b'H' };
+        demand_check(subject, &damaged, from_words("18@14", 0))?;
+    }
+    Ok(())
+}
+
+/// A line whose premise numbers have one to four digits.
+fn many_lines(subject: &dyn Controller) -> Outcome {
+    for earlier in [1, 8, 9, 10, 11, 99, 100, 101, 999, 1_000, 1_001, 1_023] {
+        let before = repeated("1\tI\t1\tI\t-\t-\n", earlier);
+        for premise in [1, 9, 10, 99, 100, 999, 1_000, 1_023, earlier, earlier + 1] {
+            let last = format!("1\t.II\t1\ts\t{premise}\t1\n");
+            let file = [&before[..], last.as_bytes()].concat();
+            let accepted = format!("accepted {}", earlier + 1);
+            let refused = format!("17@{}", earlier + 1);
+            let reply = if premise <= earlier { accepted } else { refused };
+            demand_check(subject, &file, from_words(&reply, 0))?;
+        }
+    }
+    Ok(())
+}
+
+pub fn all(suite: &mut Suite, label: &str, subject: impl Controller) {
+    for row in rows() {
+        let name = format!("{label} checking: {}", row.name);
+        suite.test(&name, || demand_check(&subject, &row.file, from_words(&row.reply, 0)));
+    }
+    let mut test = |name: &str, body: &dyn Fn(&dyn Controller) -> Outcome| {
+        suite.test(&format!("{label} checking: {name}"), || body(&subject));
+    };
+    test("generated derivations are accepted", &generated);
+    test("derivations after each step are accepted", &stepped);
+    test("every field exchanged", &|subject| each_damage(subject, with_fields_exchanged, 12));
+    test("premise numbers moved", &|subject| each_damage(subject, with_premises_moved, 80));
+    test("line structure damaged", &|subject| each_damage(subject, with_lines_damaged, 80));
+    test("every rule with every premises", &rules_and_premises);
+    test("fields damaged", &damaged_fields);
+    test("bytes damaged", &damaged_bytes);
+    test("files cut at every byte", &cut);
+    test("random bytes", &random_bytes);
+    test("large terms", &large_terms);
+    test("premise numbers of one to four digits", &many_lines);
+}

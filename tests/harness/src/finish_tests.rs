@@ -1,0 +1,123 @@
+//! Finishing: the table, every small term, random and damaged ones, in several areas and fuels.
+
+use crate::damage::damaged;
+use crate::lent::{agree, demand, predict_fast, Call, Expected};
+use crate::random::Random;
+use crate::reply::from_words;
+use crate::step_tests::{call_on, padded};
+use crate::subject::Controller;
+use crate::suite::{Outcome, Suite};
+use crate::table::finishing::{examples, long_rows, rows, Row};
+use crate::terms::{all_of_size, random_of_size};
+
+fn by_hand(subject: &dyn Controller, row: &Row) -> Outcome {
+    let mut area = row.term.clone();
+    area.resize(row.area, b'#');
+    let call = Call { term: row.term.len(), work: vec![b'w'; area.len() + 2], area };
+    let reply = from_words(&row.reply, row.after.len());
+    let expected = match row.reply.contains('@') {
+        true => Expected { reply, area: call.area.clone(), work: call.work.clone() },
+        false => Expected { reply, area: padded(&row.after, call.area.len()), work: vec![0; call.work.len()] },
+    };
+    demand(subject, &call, Some(row.fuel), &expected)
+}
+
+fn small_terms(subject: &dyn Controller) -> Outcome {
+    let mut random = Random::new(11);
+    for size in 1..=6 {
+        for term in all_of_size(size) {
+            let text = term.text();
+            for room in [0, 1, 4, 5, 6, 30] {
+                for fuel in [0, 1, 2, 3, 5, 40] {
+                    agree(subject, &call_on(&mut random, &text, size + room), Some(fuel))?;
+                }
+            }
+        }
+    }
+    Ok(())
+}
+
+/// Random terms, each with every fuel up to one more than its run needs, or 40.
+fn every_fuel(subject: &dyn Controller) -> Outcome {
+    let mut random = Random::new(12);
+    for _ in 0..400 {
+        let size = random.between(5, 40);
+        let text = random_of_size(&mut random, size).text();
+        let room = *random.pick(&[0, 6, 20, 200]);
+        for fuel in 0..40 {
+            agree(subject, &call_on(&mut random, &text, size + room), Some(fuel))?;
+        }
+    }
+    Ok(())
+}
+
+fn random_terms(subject: &dyn Controller) -> Outcome {
+    let mut random = Random::new(13);
+    for _ in 0..6_000 {
+        let size = random.between(3, 120);
+        let text = random_of_size(&mut random, size).text();
+        let room = *random.pick(&[0, 7, 30, 100, 1_000]);
+        let fuel = *random.pick(&[1, 10, 100, 1_000]);
+        agree(subject, &call_on(&mut random, &text, size + room), Some(fuel))?;
+    }
+    Ok(())
+}
+
+fn large_terms(subject: &dyn Controller) -> Outcome {
+    let mut random = Random::new(14);
+    for _ in 0..60 {
+        let size = random.between(1_000, 16_300);
+        let text = random_of_size(&mut random, size).text();
+        let call = call_on(&mut random, &text, 16_384);
+        let fuel = Some(random.between(1, 400) as u64);
+        demand(subject, &call, fuel, &predict_fast(&call, fuel))?;
+    }
+    Ok(())
+}
+
+fn damaged_terms(subject: &dyn Controller) -> Outcome {
+    let mut random = Random::new(15);
+    for _ in 0..20_000 {
+        let size = random.between(1, 40);
+        let mut text = random_of_size(&mut random, size).text();
+        for _ in 0..random.between(1, 2) {
+            text = damaged(&mut random, &text, b"JRHAIB.");
+        }
+        let room = random.below(12);
+        let fuel = *random.pick(&[0, 1, 20, 1_000_001]);
+        agree(subject, &call_on(&mut random, &text, text.len() + room), Some(fuel))?;
+    }
+    Ok(())
+}
+
+/// Every mixture of area sizes, lengths, work sizes, fuels and bytes near the limits.
+fn edges(subject: &dyn Controller) -> Outcome {
+    for area in [0, 1, 2, 3, 256, 16_384, 16_385] {
+        for work in [0, 1, area.max(1) - 1, area, area + 1] {
+            for term in [0, 1, 2, area, area + 1, 1 << 32, usize::MAX] {
+                for fuel in [0, 1, 1_000_000, 1_000_001, 1 << 32, u64::MAX] {
+                    for letter in [b'J', b'R', b'x'] {
+                        let call = Call { area: vec![letter; area], term, work: vec![9; work] };
+                        agree(subject, &call, Some(fuel))?;
+                    }
+                }
+            }
+        }
+    }
+    Ok(())
+}
+
+pub fn all(suite: &mut Suite, label: &str, subject: impl Controller) {
+    for row in examples() {
+        suite.test(&format!("{label} finishing, example: {}", row.name), || by_hand(&subject, &row));
+    }
+    for row in rows().into_iter().chain(long_rows()) {
+        suite.test(&format!("{label} finishing: {}", row.name), || by_hand(&subject, &row));
+    }
+    suite.test(&format!("{label} finishing: refusals at their edges"), || edges(&subject));
+    suite.test(&format!("{label} finishing: every term of up to 6 letters"), || small_terms(&subject));
+    suite.test(&format!("{label} finishing: random terms with every fuel"), || every_fuel(&subject));
+    suite.test(&format!("{label} finishing: random terms"), || random_terms(&subject));
+    suite.test(&format!("{label} finishing: large random terms"), || large_terms(&subject));
+    suite.test(&format!("{label} finishing: damaged terms"), || damaged_terms(&subject));
+}

@@ -1,0 +1,179 @@
+//! Lent areas with guard bytes on both sides, and calls whose every lent byte is predicted.
+
+use crate::reply::in_words;
+use crate::subject::{Controller, Probe, Second};
+use crate::suite::{equal, equal_bytes, shown, Outcome};
+use second::comparing::Lent;
+use second::plain::Plain;
+use second::stepping::Reducer;
+
+const GUARD: usize = 48;
+
+/// A lent area with guard bytes around it; areas start at every alignment in turn.
+pub struct Guarded {
+    bytes: Vec<u8>,
+    start: usize,
+    length: usize,
+}
+
+fn guard_byte(place: usize) -> u8 {
+    (place as u8).wrapping_mul(37) | 0x80
+}
+
+impl Guarded {
+    pub fn new(content: &[u8]) -> Self {
+        let start = GUARD + content.len() % 8;
+        let whole = start + content.len() + GUARD;
+        let mut bytes: Vec<u8> = (0..whole).map(guard_byte).collect();
+        bytes[start..start + content.len()].copy_from_slice(content);
+        Guarded { bytes, start, length: content.len() }
+    }
+
+    pub fn area(&mut self) -> &mut [u8] {
+        &mut self.bytes[self.start..self.start + self.length]
+    }
+
+    /// Demands the content, and that no guard byte was changed.
+    pub fn expect(&self, what: &str, content: &[u8]) -> Outcome {
+        let end = self.start + self.length;
+        equal_bytes(what, &self.bytes[self.start..end], content)?;
+        let outside = (0..self.start).chain(end..self.bytes.len());
+        match outside.into_iter().find(|&place| self.bytes[place] != guard_byte(place)) {
+            None => Ok(()),
+            Some(place) => Err(format!("{what}: guard byte {} changed", place as isize - self.start as isize)),
+        }
+    }
+}
+
+/// A term with what lies behind it in its area, and a work area.
+#[derive(Clone)]
+pub struct Call {
+    pub area: Vec<u8>,
+    pub term: usize,
+    pub work: Vec<u8>,
+}
+
+/// What a call must answer and leave.
+pub struct Expected {
+    pub reply: u64,
+    pub area: Vec<u8>,
+    pub work: Vec<u8>,
+}
+
+fn predict<R: Reducer>(call: &Call, fuel: Option<u64>) -> Expected {
+    let (mut area, mut work) = (call.area.clone(), call.work.clone());
+    let second = Second::<R>::new();
+    let reply = match fuel {
+        None => second.step(&mut area, call.term, &mut work),
+        Some(fuel) => Controller::finish(&second, &mut area, call.term, &mut work, fuel),
+    };
+    Expected { reply, area, work }
+}
+
+/// The prediction of the plain reducer.
+pub fn predict_plain(call: &Call, fuel: Option<u64>) -> Expected {
+    predict::<Plain>(call, fuel)
+}
+
+/// The prediction of the fast reducer, for runs that are long for the plain one.
+pub fn predict_fast(call: &Call, fuel: Option<u64>) -> Expected {
+    predict::<second::machine::Machine>(call, fuel)
+}
+
+/// Calls stepping (no fuel) or finishing, and demands the reply and every lent byte.
+pub fn demand(subject: &dyn Controller, call: &Call, fuel: Option<u64>, expected: &Expected) -> Outcome {
+    let (mut area, mut work) = (Guarded::new(&call.area), Guarded::new(&call.work));
+    let reply = match fuel {
+        None => subject.step(area.area(), call.term, work.area()),
+        Some(fuel) => subject.finish(area.area(), call.term, work.area(), fuel),
+    };
+    let found = equal("reply", in_words(reply), in_words(expected.reply))
+        .and_then(|()| area.expect("term area", &expected.area))
+        .and_then(|()| work.expect("work area", &expected.work));
+    found.map_err(|what| format!("{what}; on {}", described(call, fuel)))
+}
+
+fn described(call: &Call, fuel: Option<u64>) -> String {
+    let held = &call.area[..call.term.min(call.area.len())];
+    let (area, work) = (call.area.len(), call.work.len());
+    format!("term {} length {} area {area} work {work} fuel {fuel:?}", shown(held), call.term)
+}
+
+/// Demands that a call replies as the plain reducer predicts.
+pub fn agree(subject: &dyn Controller, call: &Call, fuel: Option<u64>) -> Outcome {
+    demand(subject, call, fuel, &predict_plain(call, fuel))
+}
+
+/// Two terms in their areas, a work area and a fuel.
+#[derive(Clone)]
+pub struct Pair {
+    pub first: Vec<u8>,
+    pub first_term: usize,
+    pub second: Vec<u8>,
+    pub second_term: usize,
+    pub work: Vec<u8>,
+    pub fuel: u64,
+}
+
+/// What comparing answers, and the bytes of the two areas and the work area afterwards.
+pub type Compared = (crate::subject::Answer, [Vec<u8>; 3]);
+
+/// What the second implementation answers to a pair.
+pub fn predict_pair(pair: &Pair) -> Compared {
+    let (mut first, mut second, mut work) = (pair.first.clone(), pair.second.clone(), pair.work.clone());
+    let subject = Second::<Plain>::new();
+    let (one, two) = (
+        Lent { area: &mut first, length: pair.first_term },
+        Lent { area: &mut second, length: pair.second_term },
+    );
+    let answer = subject.compare(one, two, &mut work, pair.fuel);
+    (answer, [first, second, work])
+}
+
+/// Calls comparing, and demands the answer and every lent byte.
+pub fn demand_pair(subject: &dyn Probe, pair: &Pair, expected: &Compared) -> Outcome {
+    let mut areas = [&pair.first, &pair.second, &pair.work].map(|bytes| Guarded::new(bytes));
+    let [first, second, work] = &mut areas;
+    let one = Lent { area: first.area(), length: pair.first_term };
+    let two = Lent { area: second.area(), length: pair.second_term };
+    let answer = subject.compare(one, two, work.area(), pair.fuel);
+    let mut found = equal("answer", answer, expected.0);
+    for (place, what) in ["first area", "second area", "work area"].into_iter().enumerate() {
+        found = found.and_then(|()| areas[place].expect(what, &expected.1[place]));
+    }
+    let held = |area: &[u8], term: usize| shown(&area[..term.min(area.len())]);
+    let (one, two) = (held(&pair.first, pair.first_term), held(&pair.second, pair.second_term));
+    found.map_err(|what| format!("{what}; on {one} and {two}, fuel {}", pair.fuel))
+}
+
+/// Calls checking on guarded bytes, and demands the reply and that no byte was changed.
+pub fn demand_check(subject: &dyn Controller, file: &[u8], reply: u64) -> Outcome {
+    let mut lent = Guarded::new(file);
+    let got = subject.check(lent.area());
+    let found = equal("reply", in_words(got), in_words(reply)).and_then(|()| lent.expect("file", file));
+    found.map_err(|what| format!("{what}; on {}", shown(file)))
+}
+
+/// Demands that checking replies as the second checker does.
+pub fn agree_check(subject: &dyn Controller, file: &[u8]) -> Outcome {
+    demand_check(subject, file, Second::<Plain>::new().check(file))
+}
+
+/// Calls reading on guarded bytes, and demands the answer and that no byte was changed.
+pub fn demand_read(subject: &dyn Probe, slice: &[u8], answer: crate::subject::Answer) -> Outcome {
+    let mut lent = Guarded::new(slice);
+    let got = subject.read(lent.area());
+    let found = equal("answer", got, answer).and_then(|()| lent.expect("slice", slice));
+    found.map_err(|what| format!("{what}; on {}", shown(slice)))
+}
+
+/// Calls matching on guarded bytes, and demands the answer and that no byte was changed.
+pub fn demand_match(subject: &dyn Probe, files: [&[u8]; 2], answer: crate::subject::Answer) -> Outcome {
+    let mut lent = files.map(Guarded::new);
+    let [first, second] = &mut lent;
+    let got = subject.match_claims(first.area(), second.area());
+    let found = equal("answer", got, answer)
+        .and_then(|()| lent[0].expect("first file", files[0]))
+        .and_then(|()| lent[1].expect("second file", files[1]));
+    found.map_err(|what| format!("{what}; on {} and {}", shown(files[0]), shown(files[1])))
+}

@@ -1,0 +1,21 @@
+//! Sets a subject, the engine or a stand-in for it, against the second implementation.
+
+pub mod changes;
+pub mod check_tests;
+pub mod compare_tests;
+pub mod damage;
+pub mod deep;
+pub mod derivations;
+pub mod finish_tests;
+pub mod lent;
+pub mod match_tests;
+pub mod program_tests;
+pub mod random;
+pub mod read_tests;
+pub mod reply;
+pub mod self_tests;
+pub mod step_tests;
+pub mod subject;
+pub mod suite;
+pub mod table;
+pub mod terms;

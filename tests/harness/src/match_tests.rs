@@ -1,0 +1,84 @@
+//! Matching claims: the table, and pairs of generated and damaged files.
+
+use crate::check_tests::{within_limits, LAYOUTS};
+use crate::damage::{damaged, with_field_damaged, with_field_of_other_line};
+use crate::derivations::{after_step, file_of, some};
+use crate::lent::demand_match;
+use crate::random::Random;
+use crate::reply::{refusal_in, MATCH, NO_MATCH};
+use crate::subject::{Answer, Probe, Second};
+use crate::suite::{Outcome, Suite};
+use crate::table::matching::rows;
+use second::plain::Plain;
+
+fn answer(words: &str) -> Answer {
+    match words {
+        "match" => (MATCH, 0),
+        "no match" => (NO_MATCH, 0),
+        _ => refusal_in(words).expect("a row's answer is a verdict or a refusal"),
+    }
+}
+
+fn agree(subject: &dyn Probe, files: [&[u8]; 2]) -> Outcome {
+    demand_match(subject, files, Second::<Plain>::new().match_claims(files[0], files[1]))
+}
+
+fn files(seed: u64, count: usize) -> Vec<Vec<u8>> {
+    let mut random = Random::new(seed);
+    let made = some(&mut random, count);
+    let made = made.iter().map(|derivation| file_of(derivation, *random.pick(&LAYOUTS)));
+    made.filter(|file| within_limits(file)).collect()
+}
+
+/// Every two of some files, each also with itself.
+fn generated(subject: &dyn Probe) -> Outcome {
+    let files = files(41, 90);
+    for first in &files {
+        demand_match(subject, [first, first], (MATCH, 0))?;
+        for second in &files {
+            agree(subject, [first, second])?;
+        }
+    }
+    Ok(())
+}
+
+/// The claims on a term before and after a step match.
+fn stepped(subject: &dyn Probe) -> Outcome {
+    let mut random = Random::new(42);
+    for derivation in some(&mut random, 600) {
+        let Some(next) = after_step(&derivation) else { continue };
+        let layout = *random.pick(&LAYOUTS);
+        let files = [file_of(&derivation, layout), file_of(&next, layout)];
+        if files.iter().all(|file| within_limits(file)) {
+            demand_match(subject, [&files[0], &files[1]], (MATCH, 0))?;
+        }
+    }
+    Ok(())
+}
+
+fn damaged_files(subject: &dyn Probe) -> Outcome {
+    let mut random = Random::new(43);
+    let files = files(43, 150);
+    for _ in 0..6_000 {
+        let mut chosen = [random.pick(&files).clone(), random.pick(&files).clone()];
+        let (side, field) = (random.below(2), random.below(6));
+        let file = &chosen[side].clone();
+        chosen[side] = match random.below(3) {
+            0 => damaged(&mut random, file, b"\t\n-1ab>*JI."),
+            1 => with_field_damaged(&mut random, file, field),
+            _ => with_field_of_other_line(&mut random, file, field),
+        };
+        agree(subject, [&chosen[0], &chosen[1]])?;
+    }
+    Ok(())
+}
+
+pub fn all(suite: &mut Suite, label: &str, subject: impl Probe) {
+    for row in rows() {
+        let name = format!("{label} matching: {}", row.name);
+        suite.test(&name, || demand_match(&subject, [&row.files[0], &row.files[1]], answer(row.answer)));
+    }
+    suite.test(&format!("{label} matching: generated files"), || generated(&subject));
+    suite.test(&format!("{label} matching: claims before and after a step"), || stepped(&subject));
+    suite.test(&format!("{label} matching: damaged files"), || damaged_files(&subject));
+}

@@ -1,0 +1,152 @@
+//! The two programs, each input given to a process of its own.
+
+use crate::check_tests::{within_limits, LAYOUTS};
+use crate::damage::damaged;
+use crate::derivations::{file_of, some};
+use crate::random::Random;
+use crate::subject::{Programs, Second};
+use crate::suite::{equal_bytes, shown, Outcome, Suite};
+use crate::table::programs::{check_rows, finish_rows};
+use crate::terms::random_of_size;
+use second::plain::Plain;
+use std::io::{Read, Write};
+use std::path::PathBuf;
+use std::process::{Command, Stdio};
+use std::time::Duration;
+
+/// The programs as processes.
+pub struct Processes {
+    pub folder: PathBuf,
+}
+
+/// Gives the input in pieces, with a pause between two; a program may end before it has read all.
+fn feed(mut to: impl Write, input: &[u8], piece: usize, pause: Duration) {
+    for part in input.chunks(piece.max(1)) {
+        if to.write_all(part).and_then(|()| to.flush()).is_err() {
+            return;
+        }
+        if !pause.is_zero() {
+            std::thread::sleep(pause);
+        }
+    }
+}
+
+impl Processes {
+    /// What a program prints for its input; it must end by itself.
+    fn run(&self, name: &str, input: &[u8], piece: usize, pause: Duration) -> Result<Vec<u8>, String> {
+        let mut command = Command::new(self.folder.join(name));
+        let command = command.stdin(Stdio::piped()).stdout(Stdio::piped());
+        let mut child = command.spawn().map_err(|error| format!("{name}: {error}"))?;
+        let (to, mut from) = (child.stdin.take().unwrap(), child.stdout.take().unwrap());
+        let mut printed = vec![];
+        std::thread::scope(|scope| {
+            scope.spawn(|| feed(to, input, piece, pause));
+            from.read_to_end(&mut printed)
+        })
+        .map_err(|error| error.to_string())?;
+        let status = child.wait().map_err(|error| error.to_string())?;
+        match status.code() {
+            Some(_) => Ok(printed),
+            None => Err(format!("{name} was ended by a signal: {status}")),
+        }
+    }
+}
+
+impl Programs for Processes {
+    fn finish(&self, input: &[u8]) -> Result<Vec<u8>, String> {
+        self.run("finish", input, usize::MAX, Duration::ZERO)
+    }
+
+    fn check_file(&self, input: &[u8]) -> Result<Vec<u8>, String> {
+        self.run("check_file", input, usize::MAX, Duration::ZERO)
+    }
+}
+
+/// Demands that exactly this line was printed.
+fn printed(got: Result<Vec<u8>, String>, wanted: &[u8], input: &[u8]) -> Outcome {
+    equal_bytes("printed", &got?, wanted).map_err(|what| format!("{what}; on {}", shown(input)))
+}
+
+fn with_line_feed(line: &[u8]) -> Vec<u8> {
+    [line, b"\n"].concat()
+}
+
+fn agree_finish(subject: &dyn Programs, input: &[u8]) -> Outcome {
+    printed(subject.finish(input), &Programs::finish(&Second::<Plain>::new(), input)?, input)
+}
+
+fn agree_check(subject: &dyn Programs, input: &[u8]) -> Outcome {
+    printed(subject.check_file(input), &Second::<Plain>::new().check_file(input)?, input)
+}
+
+/// A line of the finishing program's shape.
+fn random_line(random: &mut Random) -> Vec<u8> {
+    let size = random.between(1, 40);
+    let term = random_of_size(random, size).text();
+    let area = (size + random.below(30)).saturating_sub(random.below(3));
+    let fuel = *random.pick(&[0, 1, 2, 7, 50, 1_000, 1_000_000, 1_000_001]);
+    [format!("{fuel}\t{area}\t").as_bytes(), &term, b"\n"].concat()
+}
+
+fn random_lines(subject: &dyn Programs) -> Outcome {
+    let mut random = Random::new(51);
+    for _ in 0..400 {
+        let line = random_line(&mut random);
+        agree_finish(subject, &line)?;
+        agree_finish(subject, &damaged(&mut random, &line, b"\t\n0159JRHAIB."))?;
+    }
+    Ok(())
+}
+
+fn random_files(subject: &dyn Programs) -> Outcome {
+    let mut random = Random::new(52);
+    for derivation in some(&mut random, 200) {
+        let file = file_of(&derivation, *random.pick(&LAYOUTS));
+        if within_limits(&file) {
+            agree_check(subject, &file)?;
+            agree_check(subject, &damaged(&mut random, &file, b"\t\n-1ab>*JI."))?;
+        }
+    }
+    Ok(())
+}
+
+pub fn finishing(suite: &mut Suite, label: &str, subject: impl Programs) {
+    for row in finish_rows() {
+        let name = format!("{label} finish program: {}", row.name);
+        suite.test(&name, || printed(subject.finish(&row.input), &with_line_feed(&row.printed), &row.input));
+    }
+    suite.test(&format!("{label} finish program: random lines"), || random_lines(&subject));
+}
+
+pub fn checking(suite: &mut Suite, label: &str, subject: impl Programs) {
+    for row in check_rows() {
+        let name = format!("{label} check_file program: {}", row.name);
+        suite.test(&name, || printed(subject.check_file(&row.input), &with_line_feed(&row.printed), &row.input));
+    }
+    suite.test(&format!("{label} check_file program: random files"), || random_files(&subject));
+}
+
+/// Rows whose input is short enough to be given slowly.
+const SHORT: usize = 60;
+
+/// The same rows, given to the process byte by byte, so that it is fed many short pieces.
+pub fn slowly(suite: &mut Suite, label: &str, program: &str, folder: PathBuf) {
+    let processes = Processes { folder };
+    let rows = if program == "finish" { finish_rows() } else { check_rows() };
+    suite.test(&format!("{label} {program} program: input byte by byte"), || {
+        for row in rows.iter().filter(|row| row.input.len() <= SHORT) {
+            let got = processes.run(program, &row.input, 1, Duration::from_micros(300));
+            printed(got, &with_line_feed(&row.printed), &row.input)?;
+        }
+        Ok(())
+    });
+    suite.test(&format!("{label} {program} program: long input in pieces of odd length"), || {
+        for row in rows.iter().filter(|row| row.input.len() > SHORT) {
+            for piece in [4_095, 8_193, 65_535] {
+                let got = processes.run(program, &row.input, piece, Duration::ZERO);
+                printed(got, &with_line_feed(&row.printed), &row.input)?;
+            }
+        }
+        Ok(())
+    });
+}

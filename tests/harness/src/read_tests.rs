@@ -1,0 +1,68 @@
+//! Reading: the table, every short slice, random and damaged ones.
+
+use crate::damage::damaged;
+use crate::lent::demand_read;
+use crate::random::Random;
+use crate::reply::refusal_in;
+use crate::subject::{Answer, Probe, Second};
+use crate::suite::{Outcome, Suite};
+use crate::table::reading::{long_rows, rows};
+use crate::terms::random_of_size;
+use second::plain::Plain;
+
+fn answer(words: &str) -> Answer {
+    refusal_in(words).unwrap_or_else(|| (0, words.parse().expect("a row's answer is a size")))
+}
+
+fn agree(subject: &dyn Probe, slice: &[u8]) -> Outcome {
+    demand_read(subject, slice, Second::<Plain>::new().read(slice))
+}
+
+/// Every slice of up to five bytes over the letters and two others.
+fn short_slices(subject: &dyn Probe) -> Outcome {
+    let mut slices = vec![vec![]];
+    for _ in 0..5 {
+        let longer = |slice: &Vec<u8>| b"JRHAIB.x\0".map(|letter| [&slice[..], &[letter]].concat());
+        let next: Vec<Vec<u8>> = slices.iter().flat_map(longer).collect();
+        for slice in &next {
+            agree(subject, slice)?;
+        }
+        slices = next;
+    }
+    Ok(())
+}
+
+/// Each of the 256 bytes alone, behind `R`, and behind a whole term.
+fn each_byte(subject: &dyn Probe) -> Outcome {
+    for byte in 0..=255 {
+        agree(subject, &[byte])?;
+        agree(subject, &[b'R', byte])?;
+        agree(subject, &[b'J', byte])?;
+    }
+    Ok(())
+}
+
+fn random_slices(subject: &dyn Probe) -> Outcome {
+    let mut random = Random::new(101);
+    for _ in 0..20_000 {
+        let size = random.between(1, 80);
+        let text = random_of_size(&mut random, size).text();
+        agree(subject, &text)?;
+        agree(subject, &damaged(&mut random, &text, b"JRHAIB."))?;
+        let length = random.below(30);
+        let letters: Vec<u8> = (0..length).map(|_| *random.pick(b"JRHAIB.JI")).collect();
+        agree(subject, &letters)?;
+        agree(subject, &random.rubbish(length))?;
+    }
+    Ok(())
+}
+
+pub fn all(suite: &mut Suite, label: &str, subject: impl Probe) {
+    for row in rows().into_iter().chain(long_rows()) {
+        let name = format!("{label} reading: {}", row.name);
+        suite.test(&name, || demand_read(&subject, &row.slice, answer(&row.answer)));
+    }
+    suite.test(&format!("{label} reading: each byte"), || each_byte(&subject));
+    suite.test(&format!("{label} reading: every slice of up to five bytes"), || short_slices(&subject));
+    suite.test(&format!("{label} reading: random and damaged slices"), || random_slices(&subject));
+}

@@ -1,0 +1,148 @@
+//! The second implementation alone: the hand-written rows, and facts that must hold of it.
+
+use crate::changes::{backwards, forwards};
+use crate::derivations::{after_step, file_of, some, Layout};
+use crate::random::Random;
+use crate::subject::Second;
+use crate::suite::{equal, equal_bytes, shown, Outcome, Suite};
+use crate::terms::{all_of_size, random_of_size};
+use crate::{check_tests, compare_tests, deep, finish_tests, match_tests, program_tests, read_tests, step_tests};
+use second::checking::check;
+use second::finishing::{run, Outcome as End};
+use second::machine::Machine;
+use second::order::{next_place, part_at};
+use second::plain::{rewrite_at, Plain};
+use second::rules::growth;
+use second::stepping::Reducer;
+use second::term::Term;
+
+/// The numbers of terms of each size that document 02 gives.
+fn numbers_of_terms() -> Outcome {
+    for (size, number) in [(1, 2), (2, 2), (3, 18), (4, 50), (5, 354), (6, 1_442), (7, 9_202)] {
+        let mut texts: Vec<Vec<u8>> = all_of_size(size).iter().map(Term::text).collect();
+        texts.sort();
+        texts.dedup();
+        equal(&format!("terms of size {size}"), texts.len(), number)?;
+    }
+    Ok(())
+}
+
+/// The row that document 02 gives for size 3, fuel 10, area 20: all 18 finish, in 4 steps together.
+fn runs_of_size_3() -> Outcome {
+    let mut steps = 0;
+    for term in all_of_size(3) {
+        let (outcome, count) = run(&mut Plain { term }, 20, 10);
+        equal("outcome", outcome, End::Finished)?;
+        steps += count;
+    }
+    equal("steps", steps, 4)
+}
+
+/// A term has a next step exactly when it is not normal; the step's size is the one foreseen.
+fn every_small_step() -> Outcome {
+    for term in (1..=7).flat_map(all_of_size) {
+        let place = next_place(&term);
+        equal(&shown(&term.text()), place.is_none(), term.is_normal())?;
+        let Some(way) = place else { continue };
+        let mut after = term.clone();
+        let Term::Apply(f, x) = part_at(&mut after, &way) else { return Err(shown(&term.text())) };
+        let more = growth(f, x);
+        equal("a rule fits", rewrite_at(&mut after, &way).is_some(), true)?;
+        let foreseen = if more > 0 { after.size() == term.size() + more } else { after.size() <= term.size() };
+        equal(&format!("{} has the size foreseen", shown(&term.text())), foreseen, true)?;
+    }
+    Ok(())
+}
+
+/// The text of a finished run's result.
+fn result(term: &Term) -> Option<Vec<u8>> {
+    let mut machine = Machine::start(&term.text());
+    let (outcome, _) = run(&mut machine, 4_000, 2_000);
+    (outcome == End::Finished).then(|| machine.text())
+}
+
+/// Terms joined by changes, forwards and backwards, have one result.
+fn joined_terms() -> Outcome {
+    let mut random = Random::new(61);
+    let mut decided = 0;
+    for _ in 0..4_000 {
+        let size = random.between(3, 16);
+        let start = random_of_size(&mut random, size);
+        let mut other = start.clone();
+        for _ in 0..random.between(1, 8) {
+            match random.below(2) {
+                0 if other.size() < 300 => backwards(&mut random, &mut other),
+                _ => drop(forwards(&mut random, &mut other)),
+            }
+        }
+        let (Some(one), Some(two)) = (result(&start), result(&other)) else { continue };
+        decided += 1;
+        equal_bytes(&format!("{} and {}", shown(&start.text()), shown(&other.text())), &two, &one)?;
+    }
+    equal("more than 2,000 pairs were decided", decided > 2_000, true)
+}
+
+/// Rules used in any order, where they lead to a normal term, lead to the result of the order.
+fn any_order() -> Outcome {
+    let mut random = Random::new(62);
+    for _ in 0..2_000 {
+        let size = random.between(3, 20);
+        let start = random_of_size(&mut random, size);
+        let mut other = start.clone();
+        let mut left = 60;
+        while left > 0 && other.size() < 500 && forwards(&mut random, &mut other) {
+            left -= 1;
+        }
+        if other.is_normal() {
+            let found = result(&start).ok_or_else(|| format!("{} does not finish", shown(&start.text())))?;
+            equal_bytes(&shown(&start.text()), &found, &other.text())?;
+        }
+    }
+    Ok(())
+}
+
+/// Each term of a typed term's run has the claim's type in the claim's context.
+fn types_are_kept() -> Outcome {
+    let mut random = Random::new(63);
+    let layout = Layout { shared: true, second_first: false };
+    let mut steps = 0;
+    for derivation in some(&mut random, 600) {
+        let mut plain = Plain { term: derivation.term() };
+        let mut now = derivation;
+        while let Some(next) = after_step(&now).filter(|next| next.term().size() < 400) {
+            let lines = check(&file_of(&next, layout)).map_err(|refusal| format!("{refusal:?}"))?;
+            let claim = lines.last().ok_or("a derivation has a line")?;
+            plain.next(false, usize::MAX);
+            equal("the claim is on the next term", &claim.term, &plain.term)?;
+            equal("context", &claim.context, &now.context)?;
+            equal("type", &claim.kind, &now.kind)?;
+            now = next;
+            steps += 1;
+        }
+    }
+    equal("more than 1,000 steps were made", steps > 1_000, true)
+}
+
+fn rows_and_agreement(suite: &mut Suite) {
+    step_tests::all(suite, "plain", Second::<Plain>::new());
+    finish_tests::all(suite, "plain", Second::<Plain>::new());
+    step_tests::all(suite, "machine", Second::<Machine>::new());
+    finish_tests::all(suite, "machine", Second::<Machine>::new());
+    deep::reductions(suite, "machine", Second::<Machine>::new());
+    check_tests::all(suite, "second", Second::<Plain>::new());
+    read_tests::all(suite, "second", Second::<Plain>::new());
+    compare_tests::all(suite, "machine", Second::<Machine>::new());
+    match_tests::all(suite, "second", Second::<Plain>::new());
+    program_tests::finishing(suite, "second", Second::<Machine>::new());
+    program_tests::checking(suite, "second", Second::<Plain>::new());
+}
+
+pub fn all(suite: &mut Suite) {
+    suite.test("self: the numbers of terms of each size", numbers_of_terms);
+    suite.test("self: document 02's row for terms of size 3", runs_of_size_3);
+    suite.test("self: every step of every term of up to 7 letters", every_small_step);
+    suite.test("self: terms joined by changes have one result", joined_terms);
+    suite.test("self: rules in any order lead to one result", any_order);
+    suite.test("self: typed terms keep their type", types_are_kept);
+    rows_and_agreement(suite);
+}

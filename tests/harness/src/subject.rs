@@ -1,0 +1,110 @@
+//! What is under test: the engine's functions, or the second implementation in their place.
+
+use crate::reply::*;
+use second::checking;
+use second::comparing::{self, Lent, Verdict};
+use second::finish_line;
+use second::finishing;
+use second::refusal::Refusal;
+use second::stepping::{self, Reducer};
+use std::marker::PhantomData;
+
+/// The three functions that the firmware calls.
+pub trait Controller {
+    fn step(&self, area: &mut [u8], term: usize, work: &mut [u8]) -> u64;
+    fn finish(&self, area: &mut [u8], term: usize, work: &mut [u8], fuel: u64) -> u64;
+    fn check(&self, file: &[u8]) -> u64;
+}
+
+/// A reply of a probe: its number and its place or line.
+pub type Answer = (u64, usize);
+
+/// The operations that the firmware does not call.
+pub trait Probe {
+    fn read(&self, slice: &[u8]) -> Answer;
+    fn compare(&self, first: Lent, second: Lent, work: &mut [u8], fuel: u64) -> Answer;
+    fn match_claims(&self, first: &[u8], second: &[u8]) -> Answer;
+}
+
+/// The two programs: what each prints for its input.
+pub trait Programs {
+    fn finish(&self, input: &[u8]) -> Result<Vec<u8>, String>;
+    fn check_file(&self, input: &[u8]) -> Result<Vec<u8>, String>;
+}
+
+/// The second implementation, with one of its two reducers.
+pub struct Second<R>(PhantomData<fn() -> R>);
+
+impl<R> Second<R> {
+    pub fn new() -> Self {
+        Second(PhantomData)
+    }
+}
+
+impl<R> Clone for Second<R> {
+    fn clone(&self) -> Self {
+        *self
+    }
+}
+
+impl<R> Copy for Second<R> {}
+
+impl<R> Default for Second<R> {
+    fn default() -> Self {
+        Second::new()
+    }
+}
+
+impl<R: Reducer> Controller for Second<R> {
+    fn step(&self, area: &mut [u8], term: usize, work: &mut [u8]) -> u64 {
+        of_step(stepping::step::<R>(area, term, work))
+    }
+
+    fn finish(&self, area: &mut [u8], term: usize, work: &mut [u8], fuel: u64) -> u64 {
+        of_run(finishing::finish::<R>(area, term, work, fuel))
+    }
+
+    fn check(&self, file: &[u8]) -> u64 {
+        match checking::check(file) {
+            Ok(lines) => pack(ACCEPTED, lines.len() as u64, 0),
+            Err(refusal) => of_refusal(refusal),
+        }
+    }
+}
+
+fn refused(refusal: Refusal) -> Answer {
+    (refusal.number.into(), refusal.place)
+}
+
+impl<R: Reducer> Probe for Second<R> {
+    fn read(&self, slice: &[u8]) -> Answer {
+        second::reading::read(slice).map_or_else(refused, |size| (0, size))
+    }
+
+    fn compare(&self, first: Lent, second: Lent, work: &mut [u8], fuel: u64) -> Answer {
+        match comparing::compare::<R>(first, second, work, fuel) {
+            Ok(Verdict::Same) => (SAME, 0),
+            Ok(Verdict::Different) => (DIFFERENT, 0),
+            Ok(Verdict::Undecided) => (UNDECIDED, 0),
+            Err(refusal) => refused(refusal),
+        }
+    }
+
+    fn match_claims(&self, first: &[u8], second: &[u8]) -> Answer {
+        match checking::match_claims(first, second) {
+            Ok(true) => (MATCH, 0),
+            Ok(false) => (NO_MATCH, 0),
+            Err(refusal) => refused(refusal),
+        }
+    }
+}
+
+impl<R: Reducer> Programs for Second<R> {
+    fn finish(&self, input: &[u8]) -> Result<Vec<u8>, String> {
+        Ok(finish_line::finish_program::<R>(input))
+    }
+
+    fn check_file(&self, input: &[u8]) -> Result<Vec<u8>, String> {
+        Ok(finish_line::check_program(input))
+    }
+}

@@ -1,0 +1,190 @@
+//! The two programs: standard input and the one line printed.
+
+use super::checking::file;
+use crate::terms::{index, repeated};
+
+pub struct Row {
+    pub name: String,
+    pub input: Vec<u8>,
+    /// The printed line, without its line feed.
+    pub printed: Vec<u8>,
+}
+
+fn row(input: &str, printed: &str) -> Row {
+    let name = format!("{} prints {}", input.escape_debug(), printed.escape_debug());
+    Row { name, input: input.as_bytes().to_vec(), printed: printed.into() }
+}
+
+fn named(name: &str, input: Vec<u8>, printed: &str) -> Row {
+    Row { name: name.to_string(), input, printed: printed.into() }
+}
+
+const SHAPE: &str = "refused\t19\t0";
+
+/// Every row of the finishing program.
+pub fn finish_rows() -> Vec<Row> {
+    [outcomes(), shapes(), numbers(), refusals(), long_inputs()].into_iter().flatten().collect()
+}
+
+fn outcomes() -> Vec<Row> {
+    vec![
+        row("6\t12\t.BII.JRJ\n", "finished\t6\tJ"),
+        row("5\t12\t.BII.JRJ\n", "spent\t5\t.IJ"),
+        row("6\t11\t.BII.JRJ\n", "no room\t1\t.BIIHJRJ"),
+        row("1\t11\t.BII.JRJ\n", "spent\t1\t.BIIHJRJ"),
+        row("0\t11\t.BII.JRJ\n", "spent\t0\t.BII.JRJ"),
+        row("0\t1\tJ\n", "finished\t0\tJ"),
+        row("1000000\t16384\tJ\n", "finished\t0\tJ"),
+        row("9\t30\t.BIIABJIRJ\n", "finished\t4\tABIIRJ"),
+        row("9\t30\t.B.AIHJJAIHJJI.II\n", "finished\t2\tI"),
+    ]
+}
+
+/// 19: exactly one line `fuel TAB size TAB term LF`, and nothing after it.
+fn shapes() -> Vec<Row> {
+    vec![
+        row("", SHAPE),
+        row("\n", SHAPE),
+        row("6\t12\tJ", SHAPE),
+        row("6\t12\tJ\n\n", SHAPE),
+        row("6\t12\tJ\nx", SHAPE),
+        row("6\t12\tJ\n6\t12\tJ\n", SHAPE),
+        row("\n6\t12\tJ\n", SHAPE),
+        row("6\t12\tJ\t\n", SHAPE),
+        row("6\t12\tJ\tJ\n", SHAPE),
+        row("6\t12\n", SHAPE),
+        row("6\n", SHAPE),
+        row("6\t12\n\tJ\n", SHAPE),
+        row("\t\t\n", SHAPE),
+        row("\t12\tJ\n", SHAPE),
+        row("6\t\tJ\n", SHAPE),
+        row("6 12 J\n", SHAPE),
+        row("6\t12\tJ\n\0", SHAPE),
+        row("\t", SHAPE),
+        row("\0", SHAPE),
+        row("6", SHAPE),
+        row("6\t", SHAPE),
+        row("6\t12", SHAPE),
+        row("6\t12\t", SHAPE),
+        row("6\t12\t\n", "refused\t6\t0"),
+    ]
+}
+
+fn numbers() -> Vec<Row> {
+    vec![
+        row("06\t12\tJ\n", SHAPE),
+        row("00\t12\tJ\n", SHAPE),
+        row("+6\t12\tJ\n", SHAPE),
+        row("-6\t12\tJ\n", SHAPE),
+        row("6 \t12\tJ\n", SHAPE),
+        row(" 6\t12\tJ\n", SHAPE),
+        row("6x\t12\tJ\n", SHAPE),
+        row("/\t12\tJ\n", SHAPE),
+        row(":\t12\tJ\n", SHAPE),
+        row("6\0\t12\tJ\n", SHAPE),
+        row("6\t012\tJ\n", SHAPE),
+        row("6\t+12\tJ\n", SHAPE),
+        row("6\t12 \tJ\n", SHAPE),
+        row("6\t1x\tJ\n", SHAPE),
+        row("6\t0\tJ\n", SHAPE),
+        row("6\t0\t\n", SHAPE),
+        row("6\t16385\tJ\n", SHAPE),
+        row("6\t16384\tJ\n", "finished\t0\tJ"),
+        row("6\t1\tJ\n", "finished\t0\tJ"),
+        row("6\t65537\tJ\n", SHAPE),
+        row("6\t4294967297\tJ\n", SHAPE),
+        row("6\t18446744073709551617\tJ\n", SHAPE),
+        row("6\t1111111111111111111111111111111111111111\tJ\n", SHAPE),
+        row("6\t0000000000000000000000000000000000000001\tJ\n", SHAPE),
+        row("1111111111111111111111111111111111111111\t0\tJ\n", SHAPE),
+        row("2000000\t16385\tJ\n", SHAPE),
+        row("1111111111111111111111111111111111111111\t12\tJ\n", "refused\t4\t0"),
+        row("1111111111111111111111111111111111111111\t2\tRRJ\n", "refused\t3\t0"),
+        row("1111111111111111111111111111111111111111\t2\tx\n", "refused\t4\t0"),
+        row("0111111111111111111111111111111111111111\t12\tJ\n", SHAPE),
+        row("4294967297\t12\tJ\n", "refused\t4\t0"),
+        row("18446744073709551616\t12\tJ\n", "refused\t4\t0"),
+        row("18446744073709551617\t12\tJ\n", "refused\t4\t0"),
+        row("1000001\t12\tJ\n", "refused\t4\t0"),
+        row("1000000\t12\tJ\n", "finished\t0\tJ"),
+        row("2000000\t12\t\n", "refused\t4\t0"),
+    ]
+}
+
+fn refusals() -> Vec<Row> {
+    vec![
+        row("6\t12\tJ\r\n", "refused\t7\t1"),
+        row("6\t12\t\0\n", "refused\t5\t0"),
+        row("6\t12\t\0J\n", "refused\t5\t0"),
+        row("6\t12\tJ\0\n", "refused\t7\t1"),
+        row("6\t12\tHJ\n", "refused\t6\t2"),
+        row("6\t12\tJJ\n", "refused\t7\t1"),
+        row("6\t12\tHxJJ\n", "refused\t5\t1"),
+        row("6\t12\t J\n", "refused\t5\t0"),
+        row("6\t2\tRRJ\n", "refused\t3\t0"),
+        row("6\t2\tRxx\n", "refused\t3\t0"),
+        row("6\t3\tRRJ\n", "finished\t0\tRRJ"),
+        row("1000001\t2\tRRJ\n", "refused\t3\t0"),
+    ]
+}
+
+fn line(start: &str, term: Vec<u8>, end: &str) -> Vec<u8> {
+    [start.as_bytes(), &term, end.as_bytes()].concat()
+}
+
+/// Input has no limit.
+fn long_inputs() -> Vec<Row> {
+    let million = || repeated("J", 1_000_000);
+    let near_end = || [repeated("J", 999_990), b"\t".to_vec(), repeated("J", 9)].concat();
+    let digits = |digit: &str| repeated(digit, 1_000_000);
+    vec![
+        named("a million J, size 5", line("6\t5\t", million(), "\n"), "refused\t3\t0"),
+        named("a million J without a line feed", line("6\t5\t", million(), ""), SHAPE),
+        named("a million J with a tab near its end", line("6\t5\t", near_end(), "\n"), SHAPE),
+        named("a million J and a second line", line("6\t5\t", million(), "\n6\t5\tJ\n"), SHAPE),
+        named("a million J, fuel too large", line("1000001\t5\t", million(), "\n"), "refused\t3\t0"),
+        named("a million J, size out of range", line("6\t16385\t", million(), "\n"), SHAPE),
+        named("a million J, fuel with a leading zero", line("06\t5\t", million(), "\n"), SHAPE),
+        named("a million NUL", line("6\t5\t", repeated("\0", 1_000_000), "\n"), "refused\t3\t0"),
+        named("a fuel of a million digits", line("", digits("7"), "\t12\tJ\n"), "refused\t4\t0"),
+        named("a fuel of a million digits, last x", line("", digits("7"), "x\t12\tJ\n"), SHAPE),
+        named("a size of a million digits", line("6\t", digits("1"), "\tJ\n"), SHAPE),
+        named("a size of a million zeros", line("6\t", digits("0"), "\tJ\n"), SHAPE),
+        named("a million line feeds", repeated("\n", 1_000_000), SHAPE),
+        named("a million tabs", line("", repeated("\t", 1_000_000), "\n"), SHAPE),
+        named("16,385 letters", line("6\t16384\t", index(16_384), "\n"), "refused\t3\t0"),
+        whole_area(),
+    ]
+}
+
+/// A term as long as the largest area, printed whole.
+fn whole_area() -> Row {
+    let input = line("6\t16384\t", index(16_383), "\n");
+    Row { name: "16,384 letters".to_string(), input, printed: line("finished\t0\t", index(16_383), "") }
+}
+
+/// Every row of the checking program.
+pub fn check_rows() -> Vec<Row> {
+    let example = ["*a1 J a J - -", "1 I 1 I - -", "1 AIJ >aa A 2 1"];
+    let damaged = ["*a1 J a J - -", "1 I 1 I - -", "1 AIJ >aa A 1 2"];
+    let good = || repeated("1\tI\t1\tI\t-\t-\n", 1_024);
+    vec![
+        named("example 11", file(&example), "accepted\t3"),
+        named("example 12", file(&damaged), "refused\t18\t3"),
+        named("empty input", vec![], "refused\t11\t0"),
+        named("65,537 bytes", repeated("\n", 65_537), "refused\t10\t0"),
+        named("65,536 line feeds", repeated("\n", 65_536), "refused\t13\t0"),
+        named("65,536 letters", repeated("x", 65_536), "refused\t12\t0"),
+        named("65,537 letters", repeated("x", 65_537), "refused\t10\t0"),
+        named("a million bytes", repeated("x", 1_000_000), "refused\t10\t0"),
+        named("a million line feeds", repeated("\n", 1_000_000), "refused\t10\t0"),
+        named("a good file and then a million bytes", [good(), repeated("x", 1_000_000)].concat(), "refused\t10\t0"),
+        named("x", b"x".to_vec(), "refused\t12\t0"),
+        named("1,025 line feeds", repeated("\n", 1_025), "refused\t13\t0"),
+        named("1,024 line feeds", repeated("\n", 1_024), "refused\t14\t1"),
+        named("1,024 good lines", good(), "accepted\t1024"),
+        named("one good line", b"1\tI\t1\tI\t-\t-\n".to_vec(), "accepted\t1"),
+        named("a NUL in a field", b"1\t\0\t1\tI\t-\t-\n".to_vec(), "refused\t15\t1"),
+        named("a carriage return", b"1\tI\t1\tI\t-\t-\r\n".to_vec(), "refused\t17\t1"),
+    ]
+}
