@@ -43,7 +43,7 @@ fn small_files(seed: u64, count: usize) -> Vec<Vec<u8>> {
 /// Each generated derivation is accepted, in each layout, with its number of lines.
 fn generated(subject: &dyn Controller) -> Outcome {
     let mut random = Random::new(31);
-    for derivation in some(&mut random, 1_500) {
+    for derivation in some(&mut random, 1_000) {
         for file in files_of(&derivation) {
             demand_check(subject, &file, pack(ACCEPTED, lines_of(&file) as u64, 0))?;
         }
@@ -54,11 +54,12 @@ fn generated(subject: &dyn Controller) -> Outcome {
 /// Each derivation of a term after a step is accepted with the same context and type.
 fn stepped(subject: &dyn Controller) -> Outcome {
     let mut random = Random::new(32);
-    for derivation in some(&mut random, 400) {
+    for derivation in some(&mut random, 300) {
         let mut now = derivation;
-        for _ in 0..30 {
+        for _ in 0..20 {
             let Some(next) = after_step(&now) else { break };
-            for file in files_of(&next) {
+            let file = file_of(&next, *random.pick(&LAYOUTS));
+            if within_limits(&file) {
                 demand_check(subject, &file, pack(ACCEPTED, lines_of(&file) as u64, 0))?;
             }
             now = next;

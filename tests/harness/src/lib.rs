@@ -7,6 +7,7 @@ pub mod damage;
 pub mod deep;
 pub mod derivations;
 pub mod finish_tests;
+pub mod huge;
 pub mod lent;
 pub mod match_tests;
 pub mod program_tests;

@@ -32,7 +32,7 @@ fn files(seed: u64, count: usize) -> Vec<Vec<u8>> {
 
 /// Every two of some files, each also with itself.
 fn generated(subject: &dyn Probe) -> Outcome {
-    let files = files(41, 90);
+    let files = files(41, 50);
     for first in &files {
         demand_match(subject, [first, first], (MATCH, 0))?;
         for second in &files {
@@ -59,7 +59,7 @@ fn stepped(subject: &dyn Probe) -> Outcome {
 fn damaged_files(subject: &dyn Probe) -> Outcome {
     let mut random = Random::new(43);
     let files = files(43, 150);
-    for _ in 0..6_000 {
+    for _ in 0..4_000 {
         let mut chosen = [random.pick(&files).clone(), random.pick(&files).clone()];
         let (side, field) = (random.below(2), random.below(6));
         let file = &chosen[side].clone();

@@ -6,7 +6,7 @@ use crate::random::Random;
 use crate::subject::Second;
 use crate::suite::{equal, equal_bytes, shown, Outcome, Suite};
 use crate::terms::{all_of_size, random_of_size};
-use crate::{check_tests, compare_tests, deep, finish_tests, match_tests, program_tests, read_tests, step_tests};
+use crate::{check_tests, compare_tests, deep, finish_tests, huge, match_tests, program_tests, read_tests, step_tests};
 use second::checking::check;
 use second::finishing::{run, Outcome as End};
 use second::machine::Machine;
@@ -106,7 +106,7 @@ fn types_are_kept() -> Outcome {
     let mut random = Random::new(63);
     let layout = Layout { shared: true, second_first: false };
     let mut steps = 0;
-    for derivation in some(&mut random, 600) {
+    for derivation in some(&mut random, 250) {
         let mut plain = Plain { term: derivation.term() };
         let mut now = derivation;
         while let Some(next) = after_step(&now).filter(|next| next.term().size() < 400) {
@@ -135,6 +135,8 @@ fn rows_and_agreement(suite: &mut Suite) {
     match_tests::all(suite, "second", Second::<Plain>::new());
     program_tests::finishing(suite, "second", Second::<Machine>::new());
     program_tests::checking(suite, "second", Second::<Plain>::new());
+    huge::controller(suite, "second", Second::<Plain>::new());
+    huge::probe(suite, "second", Second::<Plain>::new());
 }
 
 pub fn all(suite: &mut Suite) {

@@ -43,10 +43,13 @@ pub struct Machine {
     focus: Focus,
     pending: Vec<Id>,
     size: usize,
+    most_nodes: usize,
 }
 
-/// Above this number of nodes the term is built again, without those no longer in use.
-const MANY_NODES: usize = 1 << 18;
+/// With this many nodes for each letter at the start, the term is built again from its text.
+const MANY: usize = 8;
+/// A text shorter than this counts as one of this length.
+const SHORT: usize = 256;
 
 impl Machine {
     fn letter(&self, id: Id) -> u8 {
@@ -257,7 +260,8 @@ impl Reducer for Machine {
     fn start(text: &[u8]) -> Self {
         let (nodes, done) = (Vec::with_capacity(text.len()), Vec::with_capacity(text.len()));
         let (frames, pending, focus) = (Vec::new(), Vec::new(), Focus::Nothing);
-        let mut machine = Machine { nodes, done, frames, focus, pending, size: text.len() };
+        let (size, most_nodes) = (text.len(), MANY * text.len().max(SHORT));
+        let mut machine = Machine { nodes, done, frames, focus, pending, size, most_nodes };
         let root = machine.build(text);
         machine.focus = Focus::Term(root);
         machine
@@ -272,7 +276,7 @@ impl Reducer for Machine {
             return Next::NoRoom;
         }
         let rule = self.contract(f, x);
-        if self.nodes.len() > MANY_NODES {
+        if self.nodes.len() > self.most_nodes {
             *self = Machine::start(&self.text());
         }
         Next::Stepped(rule)

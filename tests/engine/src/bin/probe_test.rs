@@ -2,7 +2,7 @@
 
 use harness::subject::{Answer, Probe};
 use harness::suite::Suite;
-use harness::{compare_tests, deep, match_tests, read_tests};
+use harness::{compare_tests, deep, huge, match_tests, read_tests};
 use second::comparing::Lent;
 
 extern "C" {
@@ -74,6 +74,7 @@ fn tests() -> i32 {
     compare_tests::all(&mut suite, "engine", Linked);
     match_tests::all(&mut suite, "engine", Linked);
     deep::all_probes(&mut suite, "engine", Linked);
+    huge::probe(&mut suite, "engine", Linked);
     suite.end()
 }
 

@@ -2,7 +2,7 @@
 
 use harness::subject::Controller;
 use harness::suite::Suite;
-use harness::{check_tests, deep, finish_tests, step_tests};
+use harness::{check_tests, deep, finish_tests, huge, step_tests};
 
 extern "C" {
     fn controller_step(area: *mut u8, area_size: usize, term_size: usize, work: *mut u8, work_size: usize) -> u64;
@@ -40,6 +40,7 @@ fn tests() -> i32 {
     finish_tests::all(&mut suite, "engine", Linked);
     check_tests::all(&mut suite, "engine", Linked);
     deep::all(&mut suite, "engine", Linked);
+    huge::controller(&mut suite, "engine", Linked);
     suite.end()
 }
 
