@@ -7,7 +7,7 @@ use crate::reply::from_words;
 use crate::step_tests::{call_on, padded};
 use crate::subject::Controller;
 use crate::suite::{Outcome, Suite};
-use crate::table::finishing::{examples, long_rows, rows, Row};
+use crate::table::finishing::{examples, long_rows, refused_rows, rows, RefusedRow, Row};
 use crate::terms::{all_of_size, random_of_size};
 
 fn by_hand(subject: &dyn Controller, row: &Row) -> Outcome {
@@ -19,6 +19,12 @@ fn by_hand(subject: &dyn Controller, row: &Row) -> Outcome {
         true => Expected { reply, area: call.area.clone(), work: call.work.clone() },
         false => Expected { reply, area: padded(&row.after, call.area.len()), work: vec![0; call.work.len()] },
     };
+    demand(subject, &call, Some(row.fuel), &expected)
+}
+
+fn refused_by_hand(subject: &dyn Controller, row: &RefusedRow) -> Outcome {
+    let call = Call { area: row.area.clone(), term: row.term, work: vec![b'w'; row.work] };
+    let expected = Expected { reply: from_words(row.reply, 0), area: call.area.clone(), work: call.work.clone() };
     demand(subject, &call, Some(row.fuel), &expected)
 }
 
@@ -113,6 +119,9 @@ pub fn all(suite: &mut Suite, label: &str, subject: impl Controller) {
     }
     for row in rows().into_iter().chain(long_rows()) {
         suite.test(&format!("{label} finishing: {}", row.name), || by_hand(&subject, &row));
+    }
+    for row in refused_rows() {
+        suite.test(&format!("{label} finishing refuses: {}", row.name), || refused_by_hand(&subject, &row));
     }
     suite.test(&format!("{label} finishing: refusals at their edges"), || edges(&subject));
     suite.test(&format!("{label} finishing: every term of up to 6 letters"), || small_terms(&subject));

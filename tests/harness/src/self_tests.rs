@@ -140,11 +140,11 @@ fn rows_and_agreement(suite: &mut Suite) {
 }
 
 pub fn all(suite: &mut Suite) {
+    rows_and_agreement(suite);
     suite.test("self: the numbers of terms of each size", numbers_of_terms);
     suite.test("self: document 02's row for terms of size 3", runs_of_size_3);
     suite.test("self: every step of every term of up to 7 letters", every_small_step);
     suite.test("self: terms joined by changes have one result", joined_terms);
     suite.test("self: rules in any order lead to one result", any_order);
     suite.test("self: typed terms keep their type", types_are_kept);
-    rows_and_agreement(suite);
 }

@@ -32,7 +32,15 @@ impl Suite {
             Err(what) => {
                 self.failed += 1;
                 println!("FAILED {name}: {}", what.replace('\n', "\\n"));
+                self.stop_if_asked();
             }
+        }
+    }
+
+    /// With the variable STOP_AT_FIRST set, nothing is run after a failure.
+    fn stop_if_asked(&mut self) {
+        if std::env::var_os("STOP_AT_FIRST").is_some() {
+            std::process::exit(std::mem::take(self).end());
         }
     }
 

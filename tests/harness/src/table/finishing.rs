@@ -74,6 +74,40 @@ pub fn rows() -> Vec<Row> {
     ]
 }
 
+/// A call that is refused: area, length, size of the work area, fuel and `number@place`.
+pub struct RefusedRow {
+    pub name: &'static str,
+    pub area: Vec<u8>,
+    pub term: usize,
+    pub work: usize,
+    pub fuel: u64,
+    pub reply: &'static str,
+}
+
+fn refused(name: &'static str, area: &[u8], term: usize, work: usize, fuel: u64, reply: &'static str) -> RefusedRow {
+    RefusedRow { name, area: area.to_vec(), term, work, fuel, reply }
+}
+
+/// The refusals of finishing, each before those that follow it.
+pub fn refused_rows() -> Vec<RefusedRow> {
+    let over = vec![b'x'; 16_385];
+    vec![
+        refused("1 before 2, 3, 4 and 5", &over, 16_386, 0, u64::MAX, "1@0"),
+        refused("1 before 4", &over, 1, 16_385, 1_000_001, "1@0"),
+        refused("2 before 3, 4 and 5", b"xJJ", 4, 2, u64::MAX, "2@0"),
+        refused("2 before 4", b"JJJ", 1, 2, 1_000_001, "2@0"),
+        refused("3 before 4 and 5", b"xJJ", 4, 3, 1_000_001, "3@0"),
+        refused("3 before 4, length at the top of its type", b"JJJ", usize::MAX, 3, u64::MAX, "3@0"),
+        refused("3 alone", b"JJJ", 4, 3, 5, "3@0"),
+        refused("4 before 5", b"xJJ", 2, 3, 1_000_001, "4@0"),
+        refused("4 before 6", b"JJJ", 0, 3, 1_000_001, "4@0"),
+        refused("4 before 7", b"JJJ", 2, 3, 1_000_001, "4@0"),
+        refused("5", b"RxJ", 3, 3, 1_000_000, "5@1"),
+        refused("6", b".IJ", 2, 3, 1_000_000, "6@2"),
+        refused("7", b"RJJ", 3, 3, 1_000_000, "7@2"),
+    ]
+}
+
 /// x_0 is the closure w = `AIHJJ`; x_(k+1) is `.B` x_k `IJ`, which rule 6 turns into x_k.
 fn nested_look_up(depth: usize) -> Vec<u8> {
     joined(&[&repeated(".B", depth), b"AIHJJ", &repeated("IJ", depth)])
