@@ -152,10 +152,15 @@ fn edges(subject: &dyn Probe) -> Outcome {
     Ok(())
 }
 
-pub fn all(suite: &mut Suite, label: &str, subject: impl Probe) {
+/// Pairs whose answers are written by hand.
+pub fn known(suite: &mut Suite, label: &str, subject: impl Probe) {
     for row in rows() {
         suite.test(&format!("{label} comparing: {}", row.name), || by_hand(&subject, &row));
     }
+}
+
+/// Pairs whose answers the plain reducer predicts.
+pub fn predicted(suite: &mut Suite, label: &str, subject: impl Probe) {
     suite.test(&format!("{label} comparing: refusals at their edges"), || edges(&subject));
     suite.test(&format!("{label} comparing: every pair of terms of up to 3 letters"), || small_pairs(&subject));
     suite.test(&format!("{label} comparing: terms joined by changes"), || joined_pairs(&subject));

@@ -43,6 +43,8 @@ pub fn deep_terms() -> Vec<(&'static str, Vec<u8>)> {
     ]
 }
 
+type Predict = fn(&Call, Option<u64>) -> Expected;
+
 fn call(text: &[u8], area: usize) -> Call {
     let mut bytes = text.to_vec();
     bytes.resize(area, b'#');
@@ -55,34 +57,34 @@ fn one_step(subject: impl Controller + Sync, text: &[u8], area: usize) -> Outcom
     on_small_stack(|| demand(&subject, &call, None, &expected))
 }
 
-fn whole_run(subject: impl Controller + Sync, text: &[u8], area: usize, fuel: u64) -> Outcome {
+fn whole_run(subject: impl Controller + Sync, text: &[u8], area: usize, fuel: u64, predict: Predict) -> Outcome {
     let call = call(text, area);
-    let expected = predict_fast(&call, Some(fuel));
+    let expected = predict(&call, Some(fuel));
     on_small_stack(|| demand(&subject, &call, Some(fuel), &expected))
 }
 
 /// Text that is not whole, or that goes on behind its end, at the full depth.
-fn refused(subject: impl Controller + Sync + Copy) -> Outcome {
+fn refused(subject: impl Controller + Sync + Copy, predict: Predict) -> Outcome {
     for text in [repeated("R", 16_384), repeated(".", 16_384), [b"J", &repeated(".", 16_383)[..]].concat()] {
         one_step(subject, &text, 16_384)?;
-        whole_run(subject, &text, 16_384, 9)?;
+        whole_run(subject, &text, 16_384, 9, predict)?;
     }
     Ok(())
 }
 
-/// Stepping and finishing on deep terms.
-pub fn reductions(suite: &mut Suite, label: &str, subject: impl Controller + Sync + Copy) {
+/// Stepping and finishing on deep terms, with a fuel and a reducer that predicts.
+pub fn reductions(suite: &mut Suite, label: &str, subject: impl Controller + Sync + Copy, fuel: u64, predict: Predict) {
     for (name, text) in deep_terms() {
         suite.test(&format!("{label} deep step: {name}"), || {
             one_step(subject, &text, text.len())?;
             one_step(subject, &text, 16_384)
         });
         suite.test(&format!("{label} deep run: {name}"), || {
-            whole_run(subject, &text, text.len(), 1_000_000)?;
-            whole_run(subject, &text, 16_384, 500)
+            whole_run(subject, &text, text.len(), fuel, predict)?;
+            whole_run(subject, &text, 16_384, 100, predict)
         });
     }
-    suite.test(&format!("{label} deep: text that reading refuses"), || refused(subject));
+    suite.test(&format!("{label} deep: text that reading refuses"), || refused(subject, predict));
 }
 
 /// Checking of files with deep terms and types.
@@ -96,7 +98,7 @@ pub fn files(suite: &mut Suite, label: &str, subject: impl Controller + Sync + C
 }
 
 pub fn all(suite: &mut Suite, label: &str, subject: impl Controller + Sync + Copy) {
-    reductions(suite, label, subject);
+    reductions(suite, label, subject, 1_000_000, predict_fast);
     files(suite, label, subject);
 }
 

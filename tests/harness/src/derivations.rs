@@ -201,8 +201,15 @@ struct Writer {
 
 /// The file of a derivation, premises first.
 pub fn file_of(derivation: &Derivation, layout: Layout) -> Vec<u8> {
+    file_of_all(std::slice::from_ref(derivation), layout)
+}
+
+/// The file of several derivations, one behind the other; the claim is the last one's.
+pub fn file_of_all(derivations: &[Derivation], layout: Layout) -> Vec<u8> {
     let mut writer = Writer { layout, file: vec![], lines: 0, known: HashMap::new() };
-    writer.write(derivation);
+    for derivation in derivations {
+        writer.write(derivation);
+    }
     writer.file
 }
 

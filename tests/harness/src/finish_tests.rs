@@ -8,7 +8,7 @@ use crate::step_tests::{call_on, padded};
 use crate::subject::Controller;
 use crate::suite::{Outcome, Suite};
 use crate::table::finishing::{examples, long_rows, refused_rows, rows, RefusedRow, Row};
-use crate::terms::{all_of_size, random_of_size};
+use crate::terms::{all_of_size, random_of_size, twice_nested};
 
 fn by_hand(subject: &dyn Controller, row: &Row) -> Outcome {
     let mut area = row.term.clone();
@@ -71,12 +71,23 @@ fn random_terms(subject: &dyn Controller) -> Outcome {
 
 fn large_terms(subject: &dyn Controller) -> Outcome {
     let mut random = Random::new(14);
-    for _ in 0..60 {
+    for _ in 0..40 {
         let size = random.between(1_000, 16_300);
         let text = random_of_size(&mut random, size).text();
-        let call = call_on(&mut random, &text, 16_384);
-        let fuel = Some(random.between(1, 400) as u64);
-        demand(subject, &call, fuel, &predict_fast(&call, fuel))?;
+        let fuel = random.between(1, 100) as u64;
+        agree(subject, &call_on(&mut random, &text, 16_384), Some(fuel))?;
+    }
+    Ok(())
+}
+
+/// Runs of many steps on terms of a few thousand letters.
+fn long_runs(subject: &dyn Controller, runs: &[(usize, u64)]) -> Outcome {
+    for &(times, fuel) in runs {
+        let mut area = twice_nested(times);
+        let term = area.len();
+        area.resize(5_000, b'#');
+        let call = Call { area, term, work: vec![b'w'; 5_000] };
+        demand(subject, &call, Some(fuel), &predict_fast(&call, Some(fuel)))?;
     }
     Ok(())
 }
@@ -113,7 +124,8 @@ fn edges(subject: &dyn Controller) -> Outcome {
     Ok(())
 }
 
-pub fn all(suite: &mut Suite, label: &str, subject: impl Controller) {
+/// Calls whose replies are written by hand.
+pub fn known(suite: &mut Suite, label: &str, subject: impl Controller) {
     for row in examples() {
         suite.test(&format!("{label} finishing, example: {}", row.name), || by_hand(&subject, &row));
     }
@@ -123,6 +135,10 @@ pub fn all(suite: &mut Suite, label: &str, subject: impl Controller) {
     for row in refused_rows() {
         suite.test(&format!("{label} finishing refuses: {}", row.name), || refused_by_hand(&subject, &row));
     }
+}
+
+/// Calls whose replies the plain reducer predicts.
+pub fn predicted(suite: &mut Suite, label: &str, subject: impl Controller) {
     suite.test(&format!("{label} finishing: refusals at their edges"), || edges(&subject));
     suite.test(&format!("{label} finishing: every term of up to 6 letters"), || small_terms(&subject));
     suite.test(&format!("{label} finishing: random terms with every fuel"), || every_fuel(&subject));
@@ -130,3 +146,11 @@ pub fn all(suite: &mut Suite, label: &str, subject: impl Controller) {
     suite.test(&format!("{label} finishing: large random terms"), || large_terms(&subject));
     suite.test(&format!("{label} finishing: damaged terms"), || damaged_terms(&subject));
 }
+
+/// Runs of many steps, predicted by the fast reducer: up to a million for the engine.
+pub fn long(suite: &mut Suite, label: &str, subject: impl Controller, runs: &[(usize, u64)]) {
+    suite.test(&format!("{label} finishing: long runs"), || long_runs(&subject, runs));
+}
+
+pub const THOUSANDS_OF_STEPS: &[(usize, u64)] = &[(8, 1_000_000), (9, 8_177), (9, 8_178), (9, 8_179)];
+pub const MILLION_STEPS: &[(usize, u64)] = &[(8, 1_000_000), (12, 65_535), (12, 65_536), (16, 1_000_000)];

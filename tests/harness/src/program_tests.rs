@@ -52,7 +52,7 @@ impl Processes {
     }
 }
 
-impl Programs for Processes {
+impl Programs for &Processes {
     fn finish(&self, input: &[u8]) -> Result<Vec<u8>, String> {
         self.run("finish", input, usize::MAX, Duration::ZERO)
     }
@@ -110,19 +110,29 @@ fn random_files(subject: &dyn Programs) -> Outcome {
     Ok(())
 }
 
-pub fn finishing(suite: &mut Suite, label: &str, subject: impl Programs) {
+/// Inputs of the finishing program whose output is written by hand.
+pub fn known_finishing(suite: &mut Suite, label: &str, subject: impl Programs) {
     for row in finish_rows() {
         let name = format!("{label} finish program: {}", row.name);
         suite.test(&name, || printed(subject.finish(&row.input), &with_line_feed(&row.printed), &row.input));
     }
+}
+
+/// Lines whose output the plain reducer predicts.
+pub fn predicted_finishing(suite: &mut Suite, label: &str, subject: impl Programs) {
     suite.test(&format!("{label} finish program: random lines"), || random_lines(&subject));
 }
 
-pub fn checking(suite: &mut Suite, label: &str, subject: impl Programs) {
+/// Inputs of the checking program whose output is written by hand.
+pub fn known_checking(suite: &mut Suite, label: &str, subject: impl Programs) {
     for row in check_rows() {
         let name = format!("{label} check_file program: {}", row.name);
         suite.test(&name, || printed(subject.check_file(&row.input), &with_line_feed(&row.printed), &row.input));
     }
+}
+
+/// Files whose output the second checker predicts.
+pub fn predicted_checking(suite: &mut Suite, label: &str, subject: impl Programs) {
     suite.test(&format!("{label} check_file program: random files"), || random_files(&subject));
 }
 

@@ -57,11 +57,16 @@ fn random_slices(subject: &dyn Probe) -> Outcome {
     Ok(())
 }
 
-pub fn all(suite: &mut Suite, label: &str, subject: impl Probe) {
+/// Slices whose answers are written by hand.
+pub fn known(suite: &mut Suite, label: &str, subject: impl Probe) {
     for row in rows().into_iter().chain(long_rows()) {
         let name = format!("{label} reading: {}", row.name);
         suite.test(&name, || demand_read(&subject, &row.slice, answer(&row.answer)));
     }
+}
+
+/// Slices whose answers the second reader predicts.
+pub fn predicted(suite: &mut Suite, label: &str, subject: impl Probe) {
     suite.test(&format!("{label} reading: each byte"), || each_byte(&subject));
     suite.test(&format!("{label} reading: every slice of up to five bytes"), || short_slices(&subject));
     suite.test(&format!("{label} reading: random and damaged slices"), || random_slices(&subject));

@@ -2,6 +2,7 @@
 
 use crate::changes::{backwards, forwards};
 use crate::derivations::{after_step, file_of, some, Layout};
+use crate::lent::predict_plain;
 use crate::random::Random;
 use crate::subject::Second;
 use crate::suite::{equal, equal_bytes, shown, Outcome, Suite};
@@ -123,24 +124,38 @@ fn types_are_kept() -> Outcome {
     equal("more than 1,000 steps were made", steps > 1_000, true)
 }
 
-fn rows_and_agreement(suite: &mut Suite) {
-    step_tests::all(suite, "plain", Second::<Plain>::new());
-    finish_tests::all(suite, "plain", Second::<Plain>::new());
-    step_tests::all(suite, "machine", Second::<Machine>::new());
-    finish_tests::all(suite, "machine", Second::<Machine>::new());
-    deep::reductions(suite, "machine", Second::<Machine>::new());
-    check_tests::all(suite, "second", Second::<Plain>::new());
-    read_tests::all(suite, "second", Second::<Plain>::new());
-    compare_tests::all(suite, "machine", Second::<Machine>::new());
-    match_tests::all(suite, "second", Second::<Plain>::new());
-    program_tests::finishing(suite, "second", Second::<Machine>::new());
-    program_tests::checking(suite, "second", Second::<Plain>::new());
-    huge::controller(suite, "second", Second::<Plain>::new());
-    huge::probe(suite, "second", Second::<Plain>::new());
+/// Everything whose reply is known without the second implementation.
+fn known(suite: &mut Suite) {
+    let (plain, fast) = (Second::<Plain>::new(), Second::<Machine>::new());
+    step_tests::known(suite, "plain", plain);
+    finish_tests::known(suite, "plain", plain);
+    check_tests::known(suite, "second", plain);
+    read_tests::known(suite, "second", plain);
+    compare_tests::known(suite, "plain", plain);
+    match_tests::known(suite, "second", plain);
+    program_tests::known_finishing(suite, "second", plain);
+    program_tests::known_checking(suite, "second", plain);
+    huge::controller(suite, "second", plain);
+    huge::probe(suite, "second", plain);
+    step_tests::known(suite, "fast", fast);
+    finish_tests::known(suite, "fast", fast);
+    compare_tests::known(suite, "fast", fast);
+}
+
+/// The fast reducer against the plain one.
+fn two_reducers(suite: &mut Suite) {
+    let fast = Second::<Machine>::new();
+    step_tests::predicted(suite, "fast", fast);
+    finish_tests::predicted(suite, "fast", fast);
+    finish_tests::long(suite, "plain", Second::<Plain>::new(), finish_tests::THOUSANDS_OF_STEPS);
+    deep::reductions(suite, "fast", fast, 300, predict_plain);
+    compare_tests::predicted(suite, "fast", fast);
+    program_tests::predicted_finishing(suite, "fast", fast);
 }
 
 pub fn all(suite: &mut Suite) {
-    rows_and_agreement(suite);
+    known(suite);
+    two_reducers(suite);
     suite.test("self: the numbers of terms of each size", numbers_of_terms);
     suite.test("self: document 02's row for terms of size 3", runs_of_size_3);
     suite.test("self: every step of every term of up to 7 letters", every_small_step);

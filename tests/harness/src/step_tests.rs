@@ -164,7 +164,8 @@ fn repeated_calls(subject: &dyn Controller) -> Outcome {
     Ok(())
 }
 
-pub fn all(suite: &mut Suite, label: &str, subject: impl Controller) {
+/// Calls whose replies are written by hand.
+pub fn known(suite: &mut Suite, label: &str, subject: impl Controller) {
     for row in stepping::rows() {
         suite.test(&format!("{label} stepping: {}", row.name), || by_hand(&subject, &row));
     }
@@ -173,6 +174,10 @@ pub fn all(suite: &mut Suite, label: &str, subject: impl Controller) {
     }
     suite.test(&format!("{label} stepping: example 2, rules 1 8 6 5 7 5"), || example_2(&subject));
     suite.test(&format!("{label} stepping: the same call three times"), || repeated_calls(&subject));
+}
+
+/// Calls whose replies the plain reducer predicts.
+pub fn predicted(suite: &mut Suite, label: &str, subject: impl Controller) {
     suite.test(&format!("{label} stepping: refusals at their edges"), || edges(&subject));
     suite.test(&format!("{label} stepping: every term of up to 6 letters, step by step"), || small_terms(&subject));
     suite.test(&format!("{label} stepping: random terms, step by step"), || random_terms(&subject));

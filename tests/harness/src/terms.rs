@@ -93,3 +93,8 @@ pub fn joined(pieces: &[&[u8]]) -> Vec<u8> {
 pub fn index(i: usize) -> Vec<u8> {
     joined(&[&repeated("R", i), b"J"])
 }
+
+/// The closure that uses its argument twice, n times around an identity, on `J`: more than 2^n steps.
+pub fn twice_nested(times: usize) -> Vec<u8> {
+    joined(&[b".", &repeated(".AIABJIHRJHRJJ", times), b"AIJ", b"J"])
+}

@@ -36,9 +36,13 @@ impl Controller for Linked {
 
 fn tests() -> i32 {
     let mut suite = Suite::new();
-    step_tests::all(&mut suite, "engine", Linked);
-    finish_tests::all(&mut suite, "engine", Linked);
-    check_tests::all(&mut suite, "engine", Linked);
+    step_tests::known(&mut suite, "engine", Linked);
+    step_tests::predicted(&mut suite, "engine", Linked);
+    finish_tests::known(&mut suite, "engine", Linked);
+    finish_tests::predicted(&mut suite, "engine", Linked);
+    finish_tests::long(&mut suite, "engine", Linked, finish_tests::MILLION_STEPS);
+    check_tests::known(&mut suite, "engine", Linked);
+    check_tests::predicted(&mut suite, "engine", Linked);
     deep::all(&mut suite, "engine", Linked);
     huge::controller(&mut suite, "engine", Linked);
     suite.end()

@@ -70,9 +70,12 @@ impl Probe for Linked {
 
 fn tests() -> i32 {
     let mut suite = Suite::new();
-    read_tests::all(&mut suite, "engine", Linked);
-    compare_tests::all(&mut suite, "engine", Linked);
-    match_tests::all(&mut suite, "engine", Linked);
+    read_tests::known(&mut suite, "engine", Linked);
+    read_tests::predicted(&mut suite, "engine", Linked);
+    compare_tests::known(&mut suite, "engine", Linked);
+    compare_tests::predicted(&mut suite, "engine", Linked);
+    match_tests::known(&mut suite, "engine", Linked);
+    match_tests::predicted(&mut suite, "engine", Linked);
     deep::all_probes(&mut suite, "engine", Linked);
     huge::probe(&mut suite, "engine", Linked);
     suite.end()

@@ -2,7 +2,7 @@
 //!
 //! Arguments: the folder of the programs, then the names of those to run.
 
-use harness::program_tests::{checking, finishing, slowly, Processes};
+use harness::program_tests::*;
 use harness::suite::Suite;
 use std::path::PathBuf;
 
@@ -13,8 +13,14 @@ fn tests() -> i32 {
     for name in words {
         let processes = Processes { folder: folder.clone() };
         match name.as_str() {
-            "finish" => finishing(&mut suite, "engine", processes),
-            "check_file" => checking(&mut suite, "engine", processes),
+            "finish" => {
+                known_finishing(&mut suite, "engine", &processes);
+                predicted_finishing(&mut suite, "engine", &processes);
+            }
+            "check_file" => {
+                known_checking(&mut suite, "engine", &processes);
+                predicted_checking(&mut suite, "engine", &processes);
+            }
             other => panic!("no program is called {other}"),
         }
         slowly(&mut suite, "engine", &name, folder.clone());

@@ -148,7 +148,7 @@ pub fn long_rows() -> Vec<Row> {
         self_application(2),
         self_application(10),
         self_application(200),
-        self_application(1_000),
+        self_application(400),
         self_application_without_room(2),
         self_application_without_room(100),
         identities(8_000),

@@ -1,0 +1,76 @@
+//! The terms that are timed.
+
+use harness::terms::{index, joined, repeated};
+
+pub const AREA: usize = 16_384;
+
+#[derive(Clone)]
+pub struct Case {
+    pub name: String,
+    pub text: Vec<u8>,
+    pub fuel: u64,
+}
+
+fn case(name: &str, text: Vec<u8>) -> Case {
+    Case { name: name.to_string(), text, fuel: 1_000_000 }
+}
+
+/// A closure whose body applies an identity n times to its argument, one after the other, applied to `J`.
+fn iterator(times: usize) -> Vec<u8> {
+    joined(&[b".ABAIJI", &repeated("HRJ", times), b"J", b"J"])
+}
+
+/// `B` t1 `B` t2 .. `I`.
+fn chain(terms: impl Iterator<Item = Vec<u8>>) -> Vec<u8> {
+    let mut text: Vec<u8> = terms.flat_map(|term| joined(&[b"B", &term])).collect();
+    text.push(b'I');
+    text
+}
+
+/// A twelve-place substitution that moves each place by `shift`.
+fn change(shift: usize) -> Vec<u8> {
+    chain((0..12).map(|place| index((place + shift) % 12)))
+}
+
+/// 288 pairs, the rows of 24 changes of twelve bells, under one substitution.
+fn long_chain() -> Vec<u8> {
+    joined(&[b".", &change(5), &chain((0..288).map(|place| index(place * 7 % 12)))])
+}
+
+/// A change of a change of .. of the first row. On the way the changes stand there twice, so 60 have room.
+fn nested_changes(times: usize) -> Vec<u8> {
+    let functions: Vec<u8> = (1..=times).flat_map(|shift| joined(&[b".", &change(shift)])).collect();
+    joined(&[&functions, &change(0)])
+}
+
+/// Terms nested to the left or to the right, of 4,000 and of 16,000 letters: (name, text of so many nodes).
+pub const NESTED: [(&str, fn(usize) -> Vec<u8>); 6] = [
+    ("left, .^k I^(k+1)", |letters| joined(&[&repeated(".", letters / 2), &repeated("I", letters / 2 + 1)])),
+    ("left, .^k J^(k+1)", |letters| joined(&[&repeated(".", letters / 2), &repeated("J", letters / 2 + 1)])),
+    ("right, (.I)^k J", |letters| joined(&[&repeated(".I", letters / 2), b"J"])),
+    ("right, (.J)^k J", |letters| joined(&[&repeated(".J", letters / 2), b"J"])),
+    ("B^k I (.IJ)^k", |letters| joined(&[&repeated("B", letters / 4), b"I", &repeated(".IJ", letters / 4)])),
+    ("(.BII)^k J", |letters| joined(&[&repeated(".BII", letters / 4), b"J"])),
+];
+
+pub const SMALL: usize = 4_000;
+pub const LARGE: usize = 16_000;
+
+pub fn nested_name(name: &str, letters: usize) -> String {
+    format!("{name}, {letters}")
+}
+
+pub fn cases() -> Vec<Case> {
+    let mut cases = vec![
+        case("an iterator of 1,000 uses", iterator(1_000)),
+        case("288 pairs under 12 places", long_chain()),
+        case("60 changes, nested", nested_changes(60)),
+        Case { name: ".AIHJJAIHJJ".to_string(), text: b".AIHJJAIHJJ".to_vec(), fuel: 100_000 },
+    ];
+    for (name, text) in NESTED {
+        for letters in [SMALL, LARGE] {
+            cases.push(case(&nested_name(name, letters), text(letters)));
+        }
+    }
+    cases
+}
