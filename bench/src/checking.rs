@@ -4,29 +4,28 @@ use crate::engine;
 use crate::table::{number, ratio, Table};
 use crate::timing::shortest;
 use harness::check_tests::doubling;
+use harness::damage::split;
 use harness::derivations::{file_of_all, some, Derivation, Layout};
 use harness::random::Random;
 
 const LAYOUT: Layout = Layout { shared: true, second_first: false };
 
-/// Generated derivations, one behind the other, as many as fit in 64,000 bytes and 1,024 lines.
+/// Generated derivations, one behind the other: nearly 64,000 bytes in at most 1,024 lines.
 fn many_lines() -> Vec<u8> {
     let mut random = Random::new(71);
     let mut kept: Vec<Derivation> = vec![];
-    for derivation in some(&mut random, 400).into_iter().filter(has_long_lines) {
-        kept.push(derivation);
-        let file = file_of_all(&kept, LAYOUT);
-        if file.len() > 64_000 || lines_of(&file) > 1_024 {
+    let mut file = vec![];
+    while file.len() < 60_000 {
+        kept.extend(some(&mut random, 1));
+        let longer = file_of_all(&kept, LAYOUT);
+        // Long lines only, so that the limit on lines is not met before that on bytes.
+        if longer.len() <= 64_000 && longer.len() > 64 * lines_of(&longer) {
+            file = longer;
+        } else {
             kept.pop();
         }
     }
-    file_of_all(&kept, LAYOUT)
-}
-
-/// So that the limit of 1,024 lines is not met before that of the bytes.
-fn has_long_lines(derivation: &Derivation) -> bool {
-    let file = file_of_all(std::slice::from_ref(derivation), LAYOUT);
-    file.len() > 70 * lines_of(&file)
+    file
 }
 
 fn lines_of(file: &[u8]) -> usize {
@@ -36,9 +35,8 @@ fn lines_of(file: &[u8]) -> usize {
 /// Terms that double from line to line, and a last line that applies the last to the one before.
 fn large_terms() -> Vec<u8> {
     let file = doubling(14);
-    let term = |line: usize| file.split(|&byte| byte == b'\n').nth(line - 1).and_then(|line| line.split(|&byte| byte == b'\t').nth(1));
-    let (last, before) = (term(14).expect("line 14 has a term"), term(13).expect("line 13 has a term"));
-    let added = [b"1\t.", last, before, b"\t1\ts\t14\t13\n"].concat();
+    let lines = split(&file);
+    let added = [b"1\t.", &lines[13][1][..], &lines[12][1], b"\t1\ts\t14\t13\n"].concat();
     [&file[..], &added].concat()
 }
 
@@ -53,7 +51,8 @@ fn row(name: &str, file: &[u8]) -> Vec<String> {
         second::checking::check(file).expect("the file is accepted");
     };
     let second = megabytes(file.len(), shortest(|| (), check));
-    let check = |_: &mut ()| assert_eq!(engine::check(file), 120 | (lines as u64) << 8, "the engine accepts the file");
+    let check =
+        |_: &mut ()| assert_eq!(engine::check(file), 120 | (lines as u64) << 8, "the engine accepts the file");
     let engine = engine::IS_LINKED.then(|| megabytes(file.len(), shortest(|| (), check)));
     vec![
         name.to_string(),

@@ -3,7 +3,13 @@
 #[cfg(engine)]
 mod linked {
     extern "C" {
-        pub fn controller_step(area: *mut u8, area_size: usize, term: usize, work: *mut u8, work_size: usize) -> u64;
+        pub fn controller_step(
+            area: *mut u8,
+            area_size: usize,
+            term: usize,
+            work: *mut u8,
+            work_size: usize,
+        ) -> u64;
         pub fn controller_finish(
             area: *mut u8,
             area_size: usize,

@@ -38,7 +38,8 @@ fn run_of<R: Reducer>(case: &Case) -> finishing::Run {
 
 fn second_finish<R: Reducer>(case: &Case) -> f64 {
     let call = |areas: &mut Areas| {
-        finishing::finish::<R>(&mut areas.0, case.text.len(), &mut areas.1, case.fuel).expect("a case is not refused");
+        finishing::finish::<R>(&mut areas.0, case.text.len(), &mut areas.1, case.fuel)
+            .expect("a case is not refused");
     };
     shortest(|| areas(&case.text), call)
 }
@@ -96,7 +97,15 @@ fn row(timed: &Timed) -> Vec<String> {
 
 pub fn table(runs: &[Timed]) -> Table {
     let heads = [
-        "term", "letters", "steps", "engine", "Rust tree", "Rust fast", "engine/tree", "engine/fast", "one step: engine",
+        "term",
+        "letters",
+        "steps",
+        "engine",
+        "Rust tree",
+        "Rust fast",
+        "engine/tree",
+        "engine/fast",
+        "one step: engine",
         "Rust fast",
     ];
     Table {

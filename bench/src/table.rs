@@ -24,7 +24,8 @@ pub fn ratio(over: Option<f64>, under: Option<f64>) -> String {
 impl Table {
     /// The widest cell of each column, in characters.
     pub fn widths(&self) -> Vec<usize> {
-        let cells = |column: usize| self.rows.iter().chain([&self.heads]).map(move |row| row[column].chars().count());
+        let cells =
+            |column: usize| self.rows.iter().chain([&self.heads]).map(move |row| row[column].chars().count());
         (0..self.heads.len()).map(|column| cells(column).max().unwrap_or(0)).collect()
     }
 

@@ -137,9 +137,12 @@ fn damaged_pairs(subject: &dyn Probe) -> Outcome {
 
 /// Every mixture of sizes, lengths, fuels and letters near the limits, for both terms.
 fn edges(subject: &dyn Probe) -> Outcome {
-    let sides = [(1, 1, b'J'), (3, 1, b'J'), (3, 4, b'J'), (3, 2, b'x'), (0, 0, b'J'), (16_384, 1, b'J'), (16_385, 1, b'J'), (3, usize::MAX, b'J'), (2, 2, b'R'), (2, 2, b'J')];
-    for (first_size, first_term, one) in sides {
-        for (second_size, second_term, two) in sides {
+    let good = [(1, 1, b'J'), (3, 1, b'J'), (16_384, 1, b'J')];
+    let bad_lengths = [(3, 4, b'J'), (16_385, 1, b'J'), (3, usize::MAX, b'J')];
+    let bad_texts = [(3, 2, b'x'), (0, 0, b'J'), (2, 2, b'R'), (2, 2, b'J')];
+    let sides = [&good[..], &bad_lengths, &bad_texts].concat();
+    for &(first_size, first_term, one) in &sides {
+        for &(second_size, second_term, two) in &sides {
             for work in [0, 2, 3, 16_383, 16_384, 16_385] {
                 for fuel in [5, 1_000_000, 1_000_001, u64::MAX] {
                     let (first, second) = (vec![one; first_size], vec![two; second_size]);

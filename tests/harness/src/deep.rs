@@ -73,7 +73,13 @@ fn refused(subject: impl Controller + Sync + Copy, predict: Predict) -> Outcome 
 }
 
 /// Stepping and finishing on deep terms, with a fuel and a reducer that predicts.
-pub fn reductions(suite: &mut Suite, label: &str, subject: impl Controller + Sync + Copy, fuel: u64, predict: Predict) {
+pub fn reductions(
+    suite: &mut Suite,
+    label: &str,
+    subject: impl Controller + Sync + Copy,
+    fuel: u64,
+    predict: Predict,
+) {
     for (name, text) in deep_terms() {
         suite.test(&format!("{label} deep step: {name}"), || {
             one_step(subject, &text, text.len())?;

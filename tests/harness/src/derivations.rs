@@ -163,7 +163,13 @@ impl<'a> Maker<'a> {
         Some(use_of(b'A', context, Type::Simple(goal.clone()), vec![environment, body]))
     }
 
-    fn substitution(&mut self, context: &[Simple], middle: Context, goal: &Type, depth: usize) -> Option<Derivation> {
+    fn substitution(
+        &mut self,
+        context: &[Simple],
+        middle: Context,
+        goal: &Type,
+        depth: usize,
+    ) -> Option<Derivation> {
         let inner = self.derive(&middle, goal, depth)?;
         let outer = self.derive_context(context, &middle, depth)?;
         Some(use_of(b's', context, goal.clone(), vec![outer, inner]))

@@ -122,10 +122,8 @@ pub type Compared = (crate::subject::Answer, [Vec<u8>; 3]);
 pub fn predict_pair(pair: &Pair) -> Compared {
     let (mut first, mut second, mut work) = (pair.first.clone(), pair.second.clone(), pair.work.clone());
     let subject = Second::<Plain>::new();
-    let (one, two) = (
-        Lent { area: &mut first, length: pair.first_term },
-        Lent { area: &mut second, length: pair.second_term },
-    );
+    let (one, two) =
+        (Lent { area: &mut first, length: pair.first_term }, Lent { area: &mut second, length: pair.second_term });
     let answer = subject.compare(one, two, &mut work, pair.fuel);
     (answer, [first, second, work])
 }

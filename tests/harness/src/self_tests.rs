@@ -7,7 +7,9 @@ use crate::random::Random;
 use crate::subject::Second;
 use crate::suite::{equal, equal_bytes, shown, Outcome, Suite};
 use crate::terms::{all_of_size, random_of_size};
-use crate::{check_tests, compare_tests, deep, finish_tests, huge, match_tests, program_tests, read_tests, step_tests};
+use crate::{
+    check_tests, compare_tests, deep, finish_tests, huge, match_tests, program_tests, read_tests, step_tests,
+};
 use second::checking::check;
 use second::finishing::{run, Outcome as End};
 use second::machine::Machine;

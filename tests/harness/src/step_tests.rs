@@ -30,7 +30,8 @@ fn by_hand(subject: &dyn Controller, row: &stepping::Row) -> Outcome {
 /// A slice that reading refuses, as the term of a step.
 fn read_by_hand(subject: &dyn Controller, row: &reading::Row) -> Outcome {
     let call = Call { area: row.slice.clone(), term: row.slice.len(), work: vec![b'w'; row.slice.len() + 3] };
-    let expected = Expected { reply: from_words(&row.answer, 0), area: call.area.clone(), work: call.work.clone() };
+    let expected =
+        Expected { reply: from_words(&row.answer, 0), area: call.area.clone(), work: call.work.clone() };
     demand(subject, &call, None, &expected)
 }
 
@@ -179,7 +180,8 @@ pub fn known(suite: &mut Suite, label: &str, subject: impl Controller) {
 /// Calls whose replies the plain reducer predicts.
 pub fn predicted(suite: &mut Suite, label: &str, subject: impl Controller) {
     suite.test(&format!("{label} stepping: refusals at their edges"), || edges(&subject));
-    suite.test(&format!("{label} stepping: every term of up to 6 letters, step by step"), || small_terms(&subject));
+    suite
+        .test(&format!("{label} stepping: every term of up to 6 letters, step by step"), || small_terms(&subject));
     suite.test(&format!("{label} stepping: random terms, step by step"), || random_terms(&subject));
     suite.test(&format!("{label} stepping: large random terms"), || large_terms(&subject));
     suite.test(&format!("{label} stepping: damaged terms"), || damaged_terms(&subject));

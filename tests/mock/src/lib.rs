@@ -31,7 +31,13 @@ unsafe fn answered(answer: Answer, place: *mut usize) -> u64 {
 }
 
 #[no_mangle]
-unsafe extern "C" fn controller_step(area: *mut u8, area_size: usize, term: usize, work: *mut u8, work_size: usize) -> u64 {
+unsafe extern "C" fn controller_step(
+    area: *mut u8,
+    area_size: usize,
+    term: usize,
+    work: *mut u8,
+    work_size: usize,
+) -> u64 {
     SECOND().step(lent(area, area_size), term, lent(work, work_size))
 }
 

@@ -138,8 +138,7 @@ fn follows_application(own: &Judgement, t: &Term, u: &Term, first: &Judgement, s
 fn follows_a(own: &Judgement, first: &Judgement, second: &Judgement) -> bool {
     let (Term::A(s, t), Some(d)) = (&own.term, context(&first.kind)) else { return false };
     let Type::Simple(Simple::Arrow(from, to)) = &own.kind else { return false };
-    says(first, &own.context, s, &first.kind)
-        && says(second, &extended(from, d), t, &Type::Simple((**to).clone()))
+    says(first, &own.context, s, &first.kind) && says(second, &extended(from, d), t, &Type::Simple((**to).clone()))
 }
 
 /// Rule I.

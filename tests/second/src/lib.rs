@@ -4,8 +4,8 @@
 //! run it on a deep stack (`on_deep_stack`). The engine works on bytes in place,
 //! so the two have little in common beyond the text that they follow.
 
-pub mod comparing;
 pub mod checking;
+pub mod comparing;
 pub mod finish_line;
 pub mod finishing;
 pub mod machine;

@@ -224,9 +224,7 @@ impl Machine {
 
     /// Does the rule for this redex make the term larger than the area?
     fn is_without_room(&self, f: Id, x: Id, area: usize) -> bool {
-        self.letter(f) == b'B'
-            && matches!(self.letter(x), b'H' | b'B')
-            && self.size + 1 + self.size_of(f) > area
+        self.letter(f) == b'B' && matches!(self.letter(x), b'H' | b'B') && self.size + 1 + self.size_of(f) > area
     }
 
     fn write(&self, id: Id, text: &mut Vec<u8>) {

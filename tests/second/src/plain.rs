@@ -3,8 +3,8 @@
 use crate::order::{next_place, part_at, Way};
 use crate::rules::{contract, growth, rule_of};
 use crate::stepping::{Next, Reducer};
-use crate::term::Term::{self, *};
 use crate::term::parse;
+use crate::term::Term::{self, *};
 
 pub struct Plain {
     pub term: Term,

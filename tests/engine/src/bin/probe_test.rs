@@ -62,8 +62,7 @@ impl Probe for Linked {
 
     fn match_claims(&self, first: &[u8], second: &[u8]) -> Answer {
         let mut line = NOT_WRITTEN;
-        let code =
-            unsafe { probe_match(first.as_ptr(), first.len(), second.as_ptr(), second.len(), &mut line) };
+        let code = unsafe { probe_match(first.as_ptr(), first.len(), second.as_ptr(), second.len(), &mut line) };
         (code, line)
     }
 }

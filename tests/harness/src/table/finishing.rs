@@ -38,14 +38,8 @@ pub fn examples() -> Vec<Row> {
 }
 
 /// Example 2 step by step: the rule's number and the term after it.
-pub const EXAMPLE_2_RULES: [(u8, &str); 6] = [
-    (1, ".BIIHJRJ"),
-    (8, "..BIIJ.BIIRJ"),
-    (6, ".I.BIIRJ"),
-    (5, ".BIIRJ"),
-    (7, ".IJ"),
-    (5, "J"),
-];
+pub const EXAMPLE_2_RULES: [(u8, &str); 6] =
+    [(1, ".BIIHJRJ"), (8, "..BIIJ.BIIRJ"), (6, ".I.BIIRJ"), (5, ".BIIRJ"), (7, ".IJ"), (5, "J")];
 
 /// The rows of replies.md, and their neighbours.
 pub fn rows() -> Vec<Row> {
@@ -84,7 +78,14 @@ pub struct RefusedRow {
     pub reply: &'static str,
 }
 
-fn refused(name: &'static str, area: &[u8], term: usize, work: usize, fuel: u64, reply: &'static str) -> RefusedRow {
+fn refused(
+    name: &'static str,
+    area: &[u8],
+    term: usize,
+    work: usize,
+    fuel: u64,
+    reply: &'static str,
+) -> RefusedRow {
     RefusedRow { name, area: area.to_vec(), term, work, fuel, reply }
 }
 

@@ -178,7 +178,11 @@ pub fn check_rows() -> Vec<Row> {
         named("65,537 letters", repeated("x", 65_537), "refused\t10\t0"),
         named("a million bytes", repeated("x", 1_000_000), "refused\t10\t0"),
         named("a million line feeds", repeated("\n", 1_000_000), "refused\t10\t0"),
-        named("a good file and then a million bytes", [good(), repeated("x", 1_000_000)].concat(), "refused\t10\t0"),
+        named(
+            "a good file and then a million bytes",
+            [good(), repeated("x", 1_000_000)].concat(),
+            "refused\t10\t0",
+        ),
         named("x", b"x".to_vec(), "refused\t12\t0"),
         named("1,025 line feeds", repeated("\n", 1_025), "refused\t13\t0"),
         named("1,024 line feeds", repeated("\n", 1_024), "refused\t14\t1"),

@@ -10,7 +10,11 @@ pub struct Row {
 }
 
 fn row(slice: &[u8], answer: &str) -> Row {
-    Row { name: format!("{} is {answer}", slice.escape_ascii()), slice: slice.to_vec(), answer: answer.to_string() }
+    Row {
+        name: format!("{} is {answer}", slice.escape_ascii()),
+        slice: slice.to_vec(),
+        answer: answer.to_string(),
+    }
 }
 
 fn named(name: &str, slice: Vec<u8>, answer: &str) -> Row {
