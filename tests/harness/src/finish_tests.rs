@@ -153,4 +153,5 @@ pub fn long(suite: &mut Suite, label: &str, subject: impl Controller, runs: &[(u
 }
 
 pub const THOUSANDS_OF_STEPS: &[(usize, u64)] = &[(8, 1_000_000), (9, 8_177), (9, 8_178), (9, 8_179)];
-pub const MILLION_STEPS: &[(usize, u64)] = &[(12, 1_000_000), (16, 65_535), (16, 65_536), (16, 65_537), (16, 1_000_000)];
+pub const MILLION_STEPS: &[(usize, u64)] =
+    &[(12, 1_000_000), (16, 65_535), (16, 65_536), (16, 65_537), (16, 1_000_000)];
