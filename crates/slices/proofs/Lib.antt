@@ -2,3 +2,5 @@ pub mod Part
 pub mod Put
 pub mod Same
 pub mod Wrote
+pub mod Splitting
+pub mod Decimal

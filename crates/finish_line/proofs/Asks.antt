@@ -1,0 +1,135 @@
+-- A line that is fed the whole input, in chunks cut anywhere, asks for what `requestOf` says of the input, and its buffer holds the
+-- term's first bytes. Carried by what the line has reached (`reached`), stage by stage. Assumes nothing.
+use Prim.Native.Nat.{ℕ, _≤_, _<_, min}
+use native.Mathlib.Omega.{arith}
+use mathlib.Core.Path.{_≡_, refl, sym, _∙_, ap, ap₂, subst}
+use mathlib.Core.Logic.{_↔_}
+use mathlib.Core.Option.{Option, none, some}
+use mathlib.Core.List.{List, [], _∷_, _++_, append-nil}
+use lib.ListN.{length, take, length-take}
+use lib.Seq.{take-take, take-length}
+use Rattle.slices.proofs.Splitting.{Free, free-append}
+use Rattle.slices.proofs.Decimal.{number-free}
+use Rattle.finish_line.specs.declared.Stage.{Stage}
+use Rattle.finish_line.specs.declared.Stage.the-variants.{FuelFirst, FuelZero, FuelMore, AreaFirst, AreaMore, InTerm, Ended, Other}
+use Rattle.finish_line.specs.declared.Asked.{Asked}
+use Rattle.finish_line.specs.declared.Asked.the-variants.{OtherShape, Request}
+use Rattle.finish_line.specs.Request.{requestOf}
+use Rattle.finish_line.specs.Request.{Request as Wanted}
+use Rattle.finish_line.specs.Fed.{fuelCap, lengthCap, State, state, fedByte, fed, startLine}
+use Rattle.finish_line.specs.Answer.{askedAt, askedOf}
+use Rattle.finish_line.specs.Kept.{keptIn}
+use Rattle.finish_line.proofs.Shape.{threeFields, open-none, whole-free, ended-asks}
+use Rattle.finish_line.proofs.Buffer.{kept-take}
+use Rattle.finish_line.proofs.Reached.{Reached, reached}
+
+-- what an input that asks for so much leaves in the answer and in the buffer
+abbrev pub Answers : (buffer : List ℕ) → Option Wanted → Asked → (buffer′ : List ℕ) → Type 0
+Answers buffer none asked buffer′ = asked ≡ OtherShape
+Answers buffer (some (Wanted.request fuel area term)) asked buffer′ =
+    (asked ≡ Request (min fuel fuelCap) area (min (length term) lengthCap)) × (buffer′ ≡ keptIn buffer (take lengthCap term))
+
+module _ (d p : List ℕ) (fuel area len : ℕ) (buffer : List ℕ) where
+  -- bytes with no line feed ask for nothing
+  still-open : (asked : Asked) → asked ≡ OtherShape → (q : List ℕ) → p ≡ q → Free 10 q → Answers d (requestOf p) asked buffer
+  still-open asked e q parted free = subst (λ (o : Option Wanted). Answers d o asked buffer) (sym (ap requestOf parted ∙ open-none q free)) e
+
+  says : (stage : Stage) → Reached d p stage fuel area len buffer → Answers d (requestOf p) (askedAt stage fuel area len) buffer
+  says FuelFirst (empty, fresh) = still-open OtherShape refl [] empty tt
+  says FuelZero (parted, nought, fresh) = still-open OtherShape refl (48 ∷ []) parted (omega arith, tt)
+  says FuelMore (n, fresh) = still-open OtherShape refl p refl (number-free 10 p (n .number) (omega arith) (n .reads))
+  says AreaFirst (first, parted, f, fresh) =
+      still-open OtherShape refl (first ++ (9 ∷ [])) parted (free-append 10 first (9 ∷ []) (f .feedless) (omega arith, tt))
+  says AreaMore (first, second, parted, f, n, fresh) =
+      still-open OtherShape refl (first ++ (9 ∷ second)) parted
+      (free-append 10 first (9 ∷ second) (f .feedless) (omega arith, number-free 10 second (n .number) (omega arith) (n .reads)))
+  says InTerm r =
+      still-open OtherShape refl (threeFields (r .first) (r .second) (r .third)) (r .parted)
+      (whole-free (r .first) (r .second) (r .fuelled .tabless) (r .fuelled .feedless) (r .second-tabless) (r .second-feedless) (r .third) (r .tabless) (r .feedless))
+  says Ended (line, parted, r) =
+      let whole : requestOf p ≡ some (Wanted.request (r .fuelled .number) area (r .third)) =
+      ap requestOf (parted ∙ ap (λ (s : List ℕ). s ++ (10 ∷ [])) (r .parted))
+      ∙ ended-asks (r .first) (r .second) (r .fuelled .tabless) (r .fuelled .feedless) (r .second-tabless) (r .second-feedless) (r .third) (r .tabless) (r .feedless) (r .fuelled .number) area (r .fuelled .reads) (r .sized) (r .low) (r .high) in
+      subst (λ (o : Option Wanted). Answers d o (Request fuel area len) buffer) (sym whole)
+      (ap₂ (λ (n k : ℕ). Request n area k) (r .fuelled .capped) (r .counted), r .kept)
+  says Other h = subst (λ (o : Option Wanted). Answers d o OtherShape buffer) (sym (ap requestOf (sym (append-nil p)) ∙ h [])) refl
+
+-- a line before its first byte, with the buffer that is lent
+abbrev pub begun : List ℕ → State
+begun buffer = state startLine buffer
+
+-- chunks fed one after the other
+abbrev pub fedChunks : State → List (List ℕ) → State
+fedChunks s [] = s
+fedChunks s (chunk ∷ chunks) = fedChunks (fed s chunk) chunks
+
+-- the input that chunks are cut from
+abbrev pub inputOf : List (List ℕ) → List ℕ
+inputOf [] = []
+inputOf (chunk ∷ chunks) = chunk ++ inputOf chunks
+
+fed-append : (s : State) (a b : List ℕ) → fed s (a ++ b) ≡ fed (fed s a) b
+fed-append s [] b = refl
+fed-append s (x ∷ a) b = fed-append (fedByte s x) a b
+
+-- however the input is cut, the line comes to the same
+pub fed-chunks : (s : State) (chunks : List (List ℕ)) → fedChunks s chunks ≡ fed s (inputOf chunks)
+fed-chunks s [] = refl
+fed-chunks s (chunk ∷ chunks) = fed-chunks (fed s chunk) chunks ∙ sym (fed-append s chunk (inputOf chunks))
+
+module _ (buffer : List ℕ) (chunks : List (List ℕ)) where
+  -- the line and the buffer once the whole input was fed
+  abbrev pub after : State
+  after = fedChunks (begun buffer) chunks
+
+  -- the whole answer: for every input, in chunks cut anywhere
+  pub line-answers : Answers buffer (requestOf (inputOf chunks)) (askedOf (after .line)) (after .buffer)
+  line-answers =
+      subst (λ (s : State). Answers buffer (requestOf (inputOf chunks)) (askedOf (s .line)) (s .buffer)) (sym (fed-chunks (begun buffer) chunks))
+      (let s : State = fed (begun buffer) (inputOf chunks) in
+      says buffer (inputOf chunks) (s .line .fuel) (s .line .area) (s .line .length) (s .buffer) (s .line .stage)
+      (reached buffer [] (inputOf chunks) (begun buffer) (refl, record { nought = refl; kept = refl })))
+
+  -- of another shape exactly where the definition has no request
+  pub other-shape : (requestOf (inputOf chunks) ≡ none) ↔ (askedOf (after .line) ≡ OtherShape)
+  other-shape = (λ e. subst (λ (o : Option Wanted). Answers buffer o (askedOf (after .line)) (after .buffer)) e line-answers, go (requestOf (inputOf chunks)) line-answers)
+    where
+      go : (o : Option Wanted) → Answers buffer o (askedOf (after .line)) (after .buffer) → askedOf (after .line) ≡ OtherShape → o ≡ none
+      go none answer e = refl
+      go (some (Wanted.request fuel area term)) answer e = let asked = answer .0 in cc
+
+  module _ (fuel area : ℕ) (term : List ℕ) (e : requestOf (inputOf chunks) ≡ some (Wanted.request fuel area term)) where
+    both : Answers buffer (some (Wanted.request fuel area term)) (askedOf (after .line)) (after .buffer)
+    both = subst (λ (o : Option Wanted). Answers buffer o (askedOf (after .line)) (after .buffer)) e line-answers
+
+    -- a request's numbers: the area size is exact, fuel and length are exact up to their caps
+    pub request-asked : askedOf (after .line) ≡ Request (min fuel fuelCap) area (min (length term) lengthCap)
+    request-asked = both .0
+
+    -- each byte of the buffer: the term's first bytes, and behind them what stood there
+    pub request-kept : after .buffer ≡ keptIn buffer (take lengthCap term)
+    request-kept = both .1
+
+    -- as many of the term's bytes as are counted and have room are read back
+    pub request-read : (n : ℕ) → n ≤ min (length term) lengthCap → n ≤ length buffer → take n (after .buffer) ≡ take n term
+    request-read n counted room =
+        ap (take n) request-kept
+        ∙ kept-take buffer (take lengthCap term) n room (omega (arith, length-take lengthCap term))
+        ∙ take-take n lengthCap term (omega arith)
+
+    -- a term that has room is there whole
+    pub request-whole : length term ≤ lengthCap → length term ≤ length buffer → take (length term) (after .buffer) ≡ term
+    request-whole counted room = request-read (length term) (omega arith) room ∙ take-length term
+
+-- the caps change no reply: fuel up to 1,000,000 is exact and more stays more, and so with a length and 16,384, the largest area
+pub fuel-exact : (fuel : ℕ) → fuel ≤ 1000000 → min fuel fuelCap ≡ fuel
+fuel-exact fuel h = omega arith
+
+pub fuel-over : (fuel : ℕ) → 1000000 < fuel → 1000000 < min fuel fuelCap
+fuel-over fuel h = omega arith
+
+pub length-exact : (n : ℕ) → n ≤ 16384 → min n lengthCap ≡ n
+length-exact n h = omega arith
+
+pub length-over : (area n : ℕ) → area ≤ 16384 → area < n → area < min n lengthCap
+length-over area n h k = omega arith

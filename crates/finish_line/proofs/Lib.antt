@@ -1,0 +1,8 @@
+pub mod Stages
+pub mod Shape
+pub mod Buffer
+pub mod Reached
+pub mod Asks
+pub mod Digits
+pub mod Writing
+pub mod Edges

@@ -1,0 +1,72 @@
+-- `finish_line::feed` meets its contract. The loop's invariant: feeding what is left of the chunk to the line and buffer so far comes to
+-- the whole chunk's state. A turn is `fed-turn`. The measure is what is left of the chunk. Assumes nothing.
+use mathlib.Core.Path.{_≡_, refl, sym, _∙_}
+use Prim.Native.Nat.{_≤_, _-_}
+use native.Mathlib.Omega.{arith}
+use lib.ListN.{length, drop}
+use Rattle.finish_line.specs.Fed.{state, fed}
+use Rattle.finish_line.proofs.Stages.{fed-turn, fed-end}
+use borrow.Author.Needs.{needs}
+use Rattle.finish_line.proofs.feed.Statement.{statement}
+use Rattle.finish_line.proofs.feed.Tie as tie
+
+abbrev Inv-loop : tie.InvT-loop
+Inv-loop chunk term₀ l₀ i₀ term l i = (i ≤ length chunk) × (length term ≡ length term₀) × (fed (state l term) (drop i chunk) ≡ fed (state l₀ term₀) chunk)
+
+abbrev μ-loop : tie.MeasureT-loop
+μ-loop chunk term₀ l₀ i₀ term l i = length chunk - i
+
+loop-holds : tie.Need-loop-holds Inv-loop μ-loop
+loop-holds c = (omega arith, refl, refl)
+
+shared-slice-read-b : tie.Need-shared-slice-read-b Inv-loop μ-loop
+shared-slice-read-b c = omega arith
+
+keep-requires : tie.Need-keep-requires Inv-loop μ-loop
+keep-requires c κs = search needs
+
+fed-line-requires : tie.Need-fed-line-requires Inv-loop μ-loop
+fed-line-requires c κs = search needs
+
+add-i : tie.Need-add-i Inv-loop μ-loop
+add-i c = omega arith
+
+loop-less : tie.Need-loop-less Inv-loop μ-loop
+loop-less c = omega arith
+
+loop-again : tie.Need-loop-again Inv-loop μ-loop
+loop-again c =
+    let kept = c .before .before .before in
+    let test = kept .before .before .before in
+    let l = test .before .loop in
+    let a = test .before .before .before .before .args in (
+      omega arith,
+      kept .keep .kept .1 .1 .0 ∙ l .inv .1,
+      fed-turn (a .chunk .now) (l .i) (l .l) (c .fed-line .result) (l .term) (kept .keep .last .1 .1 .0) (test .loop-test .taken) (kept .keep .ensures) (c .fed-line .ensures)
+          ∙ l .inv .2,
+    )
+
+same-length : tie.Need-same-length Inv-loop μ-loop
+same-length c = c .before .loop .inv .1
+
+returns : tie.Need-returns Inv-loop μ-loop
+returns c =
+    let l = c .before .loop in
+    let a = c .before .before .before .before .args in
+    sym (fed-end (a .chunk .now) (l .i) (l .l) (l .term) (c .loop-test .left)) ∙ l .inv .2
+
+pub feed-spec : {M : Type 1} → statement M
+feed-spec =
+    tie.close
+    (tie.spec
+    Inv-loop
+    μ-loop
+    loop-holds
+    shared-slice-read-b
+    keep-requires
+    fed-line-requires
+    add-i
+    loop-less
+    loop-again
+    same-length
+    returns)

@@ -1,0 +1,16 @@
+-- `finish_line::is_term_byte` meets its contract: its tests are the definition's. Assumes nothing.
+use borrow.Author.Tests.{eq-eqb, ne-eqb}
+use Rattle.finish_line.proofs.is_term_byte.Statement.{statement}
+use Rattle.finish_line.proofs.is_term_byte.Tie as tie
+
+returns : tie.Need-returns
+returns c = rw (eq-eqb _ _ (c .if1 .taken))
+
+returns-2 : tie.Need-returns-2
+returns-2 c = rw (ne-eqb _ _ (c .before .if1 .left), eq-eqb _ _ (c .if2 .taken))
+
+returns-3 : tie.Need-returns-3
+returns-3 c = rw (ne-eqb _ _ (c .before .if1 .left), ne-eqb _ _ (c .if2 .left))
+
+pub is-term-byte-spec : {M : Type 1} → statement M
+is-term-byte-spec = tie.close (tie.spec returns returns-2 returns-3)

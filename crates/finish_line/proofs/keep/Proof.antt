@@ -1,0 +1,23 @@
+-- `finish_line::keep` meets its contract: its test is the definition's. Assumes nothing.
+use mathlib.Core.Path.{sym, _∙_}
+use borrow.Author.Needs.{needs}
+use Rattle.finish_line.proofs.keep.Statement.{statement}
+use Rattle.finish_line.proofs.keep.Tie as tie
+
+is-kept-requires : tie.Need-is-kept-requires
+is-kept-requires c κs = search needs
+
+store-requires : tie.Need-store-requires
+store-requires c κs = search needs
+
+same-length : tie.Need-same-length
+same-length c = search needs
+
+returns : tie.Need-returns
+returns c = rw (sym (c .before .before .before .before .before .is-kept .ensures) ∙ c .before .before .before .before .if1 .taken) (c .before .before .store .ensures)
+
+returns-2 : tie.Need-returns-2
+returns-2 c = rw (sym (c .before .is-kept .ensures) ∙ c .if1 .left)
+
+pub keep-spec : {M : Type 1} → statement M
+keep-spec = tie.close (tie.spec is-kept-requires store-requires same-length returns returns-2)
