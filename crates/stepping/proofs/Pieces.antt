@@ -1,6 +1,6 @@
 -- Lists in pieces: the part between two seams of a list is the pieces between them, and the text of a term that is a piece ends at its
 -- seam. These say what stands at which index of a text. Assumes nothing.
-use Prim.Native.Nat.{ℕ, suc, _+_, _-_}
+use Prim.Native.Nat.{ℕ, _+_, _-_}
 use native.Mathlib.Omega.{arith}
 use mathlib.Core.Path.{_≡_, refl, sym, _∙_, ap}
 use mathlib.Core.List.{List, [], _∷_, _++_, append-assoc}

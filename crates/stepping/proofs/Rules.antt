@@ -6,7 +6,7 @@ use mathlib.Core.Path.{_≡_, refl, sym, _∙_, ap, ap₂, subst}
 use mathlib.Core.Option.{Option, some}
 use mathlib.Core.List.{List, [], _∷_, _++_, append-assoc, append-nil}
 use lib.ListN.{length, getD, length-append}
-use Rattle.calculus.specs.Letter.{Letter, byte, letterOf}
+use Rattle.calculus.specs.Letter.{Letter, byte}
 use Rattle.calculus.specs.Term.{Term, text, size}
 use Rattle.calculus.specs.Order.{Next, next}
 use Rattle.calculus.proofs.PrefixCode.{length-text}
@@ -14,7 +14,7 @@ use Rattle.slices.specs.Part.{part}
 use Rattle.slices.proofs.Part.{part-empty}
 use Rattle.stepping.specs.Skip.{endAt}
 use Rattle.stepping.specs.declared.rewrite.Rewrite.{Rewrite}
-use Rattle.stepping.specs.Rewriting.{onePart, frozen, entered, doubled, onPair, closureOf, pairOf, onFunction, rewriteOf, letterText, rewritten}
+use Rattle.stepping.specs.Rewriting.{onePart, frozen, doubled, onPair, closureOf, pairOf, onFunction, rewriteOf, letterText, rewritten}
 use Rattle.stepping.proofs.Heads.{headOf}
 use Rattle.stepping.proofs.Pieces.{flat, part-flat, end-flat}
 use Rattle.stepping.proofs.Spots.{Laid, around, function-head, function-end, argument-head}

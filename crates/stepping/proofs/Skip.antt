@@ -9,7 +9,7 @@ use mathlib.Core.List.{List, [], _∷_, _++_, append-assoc}
 use mathlib.Core.Option.{Option, none, some}
 use lib.ListN.{length, getD, drop, length-drop, drop-of-length-le}
 use lib.Seq.{drop-cons, drop-drop, drop-at}
-use Rattle.calculus.specs.Letter.{Letter, byte, letterOf, owed}
+use Rattle.calculus.specs.Letter.{Letter, letterOf}
 use Rattle.calculus.specs.Term.{Term, text, size}
 use Rattle.reading.specs.Parts.{partsOfLetter, partsOf}
 use Rattle.stepping.specs.Skip.{owedBehind, skip, endAt}
@@ -24,11 +24,6 @@ pub skip-within : (k : ℕ) (s : List ℕ) → skip k s ≤ length s
 skip-within k [] = omega arith
 skip-within zero (b ∷ s) = omega arith
 skip-within (suc k) (b ∷ s) = omega (arith, skip-within (owedBehind (letterOf b) k) s)
-
--- a term takes a byte, where there is one
-skip-some : (k : ℕ) (s : List ℕ) → 0 < length s → 0 < skip (suc k) s
-skip-some k [] h = h
-skip-some k (b ∷ s) h = omega arith
 
 owed-add : (o : Option Letter) (j k : ℕ) → owedBehind o (j + k) ≡ owedBehind o j + k
 owed-add none j k = refl
@@ -52,12 +47,9 @@ skip-add (b ∷ s) (suc j) k =
 
 -- ---- the end of a part
 
--- a part's end lies below what bounds its beginning and the list, and behind its first byte
+-- a part's end lies below what bounds its beginning and the list
 pub end-below : (s : List ℕ) (at end n : ℕ) → end ≡ endAt s at → at ≤ n → length s ≤ n → end ≤ n
 end-below s at end n e h k = omega (arith, skip-within 1 (drop at s), length-drop at s)
-
-pub end-behind : (s : List ℕ) (at : ℕ) → at < length s → at < endAt s at
-end-behind s at h = let some-left : 0 < length (drop at s) = omega (arith, length-drop at s) in omega (arith, skip-some 0 (drop at s) some-left)
 
 -- past the end there is no part
 pub end-past : (s : List ℕ) (at : ℕ) → length s ≤ at → at ≡ endAt s at

@@ -12,7 +12,7 @@ use Rattle.calculus.specs.Term.{Term, text, size}
 use Rattle.calculus.specs.Order.{Next, next, within}
 use Rattle.calculus.proofs.PrefixCode.{length-text}
 use Rattle.stepping.specs.Skip.{endAt}
-use Rattle.stepping.specs.Spot.{Holds, StepsTo, Spot, Turn, Found}
+use Rattle.stepping.specs.Spot.{Begins, Spot, Move, Found}
 use Rattle.stepping.proofs.Heads.{headOf, is-app, is-pair}
 use Rattle.stepping.proofs.Pieces.{flat, end-flat, head-flat}
 
@@ -81,22 +81,22 @@ module _ {s front : List ℕ} {f a : Term} {back rest : List ℕ} {p : ℕ} (lai
 
 -- the list of a term in which there is a spot
 pub spot-laid :
-    {s : List ℕ} {len : ℕ} (h : Holds s len) {p : ℕ} (spot : Spot (h .term) p) →
+    {s : List ℕ} {len : ℕ} (h : Begins s len) {p : ℕ} (spot : Spot (h .term) p) →
     Laid s (spot .front) (spot .function) (spot .argument) (spot .back) (h .rest) p
 spot-laid h spot =
     record { whole = h .spelt ∙ ap (λ (l : List ℕ). l ++ h .rest) (spot .spelt) ∙ simp (append-assoc, append-nil); place = spot .place }
 
 -- where the search goes on, it goes to a spot
-pub turn-spot : {s : List ℕ} {len : ℕ} (h : Holds s len) {p q : ℕ} → Spot (h .term) p → Turn s p q → ¬ (q ≡ p) → Spot (h .term) q
-turn-spot h spot (Turn.function e) n =
+pub move-spot : {s : List ℕ} {len : ℕ} (h : Begins s len) {p q : ℕ} → Spot (h .term) p → Move s p q → ¬ (q ≡ p) → Spot (h .term) q
+move-spot h spot (Move.function e) n =
     let app = is-app (spot .function) (sym (function-head (spot-laid h spot)) ∙ e) in
     in-function spot (app .0) (app .1) (app .2)
-turn-spot h {p = p} spot (Turn.argument {end = end} m e k) n =
+move-spot h {p = p} spot (Move.argument {end = end} m e k) n =
     let laid = spot-laid h spot in
     let pair = is-pair (spot .function) (sym (function-head laid) ∙ e) in
     let app = is-app (spot .argument) (sym (argument-head laid end m) ∙ k) in
     rw (m ∙ function-end laid) (in-argument spot (pair .0) (pair .1) (app .0) (app .1) (pair .2) (app .2))
-turn-spot h spot (Turn.here m k) n = absurd (n refl)
+move-spot h spot (Move.here m k) n = absurd (n refl)
 
 -- a byte that is not 0 stands in the list
 byte-within : (s : List ℕ) (at : ℕ) → getD s at 0 ≡ byte Letter.stop → at < length s
@@ -107,19 +107,19 @@ byte-within s at e = go (decLt at (length s))
     go (no k) = absurd (omega (arith, List·getD-eq-default s 0 {n = at} (omega arith)))
 
 -- where the search goes on, it goes to the right, and stays within the list
-pub turn-within : {s : List ℕ} {p q : ℕ} → Turn s p q → ¬ (q ≡ p) → (p < q) × (q < length s)
-turn-within {s} {p} (Turn.function e) n = (omega arith, byte-within s (p + 1) e)
-turn-within {s} (Turn.argument {end = end} m e k) n = (omega arith, byte-within s end k)
-turn-within (Turn.here m k) n = absurd (n refl)
+pub move-within : {s : List ℕ} {p q : ℕ} → Move s p q → ¬ (q ≡ p) → (p < q) × (q < length s)
+move-within {s} {p} (Move.function e) n = (omega arith, byte-within s (p + 1) e)
+move-within {s} (Move.argument {end = end} m e k) n = (omega arith, byte-within s end k)
+move-within (Move.here m k) n = absurd (n refl)
 
 -- where it goes no further, neither its function nor the argument of its pair is an application
-pub turn-stays :
-    {s : List ℕ} {p q : ℕ} → Turn s p q → q ≡ p →
+pub move-stays :
+    {s : List ℕ} {p q : ℕ} → Move s p q → q ≡ p →
     ¬ (getD s (p + 1) 0 ≡ byte Letter.stop) × (getD s (p + 1) 0 ≡ byte Letter.B → ¬ (getD s (endAt s (p + 1)) 0 ≡ byte Letter.stop))
-turn-stays (Turn.function e) n = absurd (omega arith)
-turn-stays (Turn.argument m e k) n = absurd (omega arith)
-turn-stays (Turn.here m k) n = (m, k)
+move-stays (Move.function e) n = absurd (omega arith)
+move-stays (Move.argument m e k) n = absurd (omega arith)
+move-stays (Move.here m k) n = (m, k)
 
 -- and it has found the redex
-pub turn-found : {t : Term} {s : List ℕ} {len p q : ℕ} → Spot t p → Turn s p q → q ≡ p → Found t s len p
-turn-found {t} {s} spot turn e = Found.redex spot (rw e at turn)
+pub move-found : {t : Term} {s : List ℕ} {len p q : ℕ} → Spot t p → Move s p q → q ≡ p → Found t s len p
+move-found {t} {s} spot move e = Found.redex spot (rw e at move)

@@ -3,11 +3,10 @@
 use Prim.Native.Nat.{ℕ, _+_, _-_, _≤_, _<_}
 use native.Mathlib.Omega.{arith}
 use mathlib.Core.Path.{_≡_, refl, sym, _∙_, ap, ap₂, subst}
-use mathlib.Core.Bool.{Bool, true, false}
-use mathlib.Core.Option.{Option, none, some}
-use mathlib.Core.List.{List, [], _∷_, _++_}
+use mathlib.Core.Bool.{Bool}
+use mathlib.Core.List.{List, _++_}
 use borrow.Author.Tests.{lt-ltb, le-ltb, le-leb, lt-leb}
-use lib.Dec.{ltb, leb}
+use lib.Dec.{leb}
 use lib.ListN.{length, take, drop, replicate, length-append, length-take, take-append-drop}
 use Rattle.calculus.specs.Term.{Term, text, size}
 use Rattle.calculus.specs.Order.{Next, next}
@@ -18,17 +17,17 @@ use Rattle.slices.specs.Put.{put, behind}
 use Rattle.slices.specs.Wrote.{Wrote}
 use Rattle.slices.proofs.Put.{behind-fits}
 use Rattle.slices.proofs.Wrote.{wrote-put, wrote-piece, wrote-zeros}
-use Rattle.reading.specs.Reply.{Reply, refuseIf}
-use Rattle.reading.specs.Reading.{readingOf, refusal, orRefusal, termRead}
+use Rattle.reading.specs.Reply.{Reply}
+use Rattle.reading.specs.Reading.{readingOf, orRefusal, termRead}
 use Rattle.reading.proofs.Whole.{whole-term, refused-none}
-use Rattle.stepping.specs.Areas.{refusedAreas, holding, cleared}
-use Rattle.stepping.specs.Stepping.{Stepped, After, admitted, stepTo, stepNext, stepAdmitted, steppingOf}
-use Rattle.stepping.specs.Spot.{Holds, StepsTo, Spot, Turn, Found}
+use Rattle.stepping.specs.Areas.{holding, cleared}
+use Rattle.stepping.specs.Stepping.{Stepped, After, stepTo, stepNext, stepAdmitted, steppingOf}
+use Rattle.stepping.specs.Spot.{Begins, Spot, Move, Found}
 use Rattle.stepping.specs.declared.rewrite.Rewrite.{Rewrite}
 use Rattle.stepping.specs.Rewriting.{rewriteOf, rewritten}
 use Rattle.stepping.proofs.Stops.{held, spot-within}
-use Rattle.stepping.proofs.Spots.{spot-laid, turn-stays}
-use Rattle.stepping.proofs.Rules.{Fires, fires}
+use Rattle.stepping.proofs.Spots.{spot-laid, move-stays}
+use Rattle.stepping.proofs.Rules.{fires}
 
 -- ---- what is found
 
@@ -43,23 +42,23 @@ pub record Makes (t : Term) (s : List ℕ) (len : ℕ) (w : Rewrite) : Type 0 wh
 -- nothing is found at the end of the term only where nothing comes next
 found-end : {t : Term} {s : List ℕ} {len r : ℕ} → Found t s len r → len ≡ size t → r ≡ len → next t ≡ Next.stop
 found-end (Found.nothing e) n q = e
-found-end (Found.redex spot turn) n q = absurd (omega (arith, spot-within spot))
+found-end (Found.redex spot move) n q = absurd (omega (arith, spot-within spot))
 
 -- what is found elsewhere is the redex
-found-redex : {t : Term} {s : List ℕ} {len r : ℕ} → Found t s len r → ¬ (r ≡ len) → Spot t r × Turn s r r
+found-redex : {t : Term} {s : List ℕ} {len r : ℕ} → Found t s len r → ¬ (r ≡ len) → Spot t r × Move s r r
 found-redex (Found.nothing e) n = absurd (n refl)
-found-redex (Found.redex spot turn) n = (spot, turn)
+found-redex (Found.redex spot move) n = (spot, move)
 
 -- the sizes of a front, a term and a back
 length-three : (x : List ℕ) (t : Term) (y : List ℕ) → length (x ++ (text t ++ y)) ≡ length x + size t + length y
 length-three x t y = omega (arith, length-append x (text t ++ y), length-append (text t) y, length-text t)
 
 -- and its rewrite makes the next step
-pub found-makes : {s : List ℕ} {len r : ℕ} (h : Holds s len) → Found (h .term) s len r → ¬ (r ≡ len) → Makes (h .term) s len (rewriteOf s r)
+pub found-makes : {s : List ℕ} {len r : ℕ} (h : Begins s len) → Found (h .term) s len r → ¬ (r ≡ len) → Makes (h .term) s len (rewriteOf s r)
 found-makes {s} {len} {r} h found n =
     let both = found-redex found n in
     let spot = both .0 in
-    let stays = turn-stays (both .1) refl in
+    let stays = move-stays (both .1) refl in
     let redex = Term.app (spot .function) (spot .argument) in
     let long : len ≡ r + size redex + length (spot .back) =
     omega (arith, h .sized, length-text (h .term), ap length (spot .spelt), length-three (spot .front) redex (spot .back), spot .place) in
@@ -79,7 +78,7 @@ found-makes {s} {len} {r} h found n =
 -- ---- what is written and cleared
 
 -- zeros behind the term
-pub holding-held : {s : List ℕ} {len : ℕ} (h : Holds s len) → take len s ++ replicate (length s - len) 0 ≡ holding (h .term) s
+pub holding-held : {s : List ℕ} {len : ℕ} (h : Begins s len) → take len s ++ replicate (length s - len) 0 ≡ holding (h .term) s
 holding-held {s} h = ap₂ (λ (l : List ℕ) (n : ℕ). l ++ replicate (length s - n) 0) (held h) (h .sized)
 
 -- the new term, put at the front of the area, and zeros behind it
@@ -95,7 +94,7 @@ holding-put n work area area₁ area₂ e z t old w h =
 
 -- ---- the ways out of `advance`
 
-module _ {area : List ℕ} {len : ℕ} (h : Holds area len) (work : List ℕ) where
+module _ {area : List ℕ} {len : ℕ} (h : Begins area len) (work : List ℕ) where
   -- where nothing comes next
   pub after-normal :
       {r : ℕ} {area′ work′ : List ℕ} → Found (h .term) area len r → r ≡ len →
@@ -179,7 +178,7 @@ module _ (area : List ℕ) (len : ℕ) (work : List ℕ) where
         -- what reading answers
         pub reading-answered :
             (n : ℕ) → Reply.answered n ≡ readingOf (take len area) →
-            (h : Holds area n) × (n ≤ length area) × (steppingOf area len work ≡ stepNext (h .term) (next (h .term)) area work)
+            (h : Begins area n) × (n ≤ length area) × (steppingOf area len work ≡ stepNext (h .term) (next (h .term)) area work)
         unfolding termRead
         reading-answered n e =
             let read = whole-term (take len area) n (sym e) in

@@ -1,7 +1,7 @@
 -- The first full stop of a text: what the loop that looks for it finds, and that it is where the search for the redex starts.
 -- Carried by one induction over the term: a text without a full stop has no next step, and in any other the application that the
 -- first full stop begins makes the term's next step. Assumes nothing.
-use Prim.Native.Nat.{ℕ, zero, suc, _+_, _≤_, _<_}
+use Prim.Native.Nat.{ℕ, suc, _+_, _≤_, _<_}
 use native.Mathlib.Numerals.{add-one}
 use native.Mathlib.Omega.{arith}
 use mathlib.Core.Path.{_≡_, refl, sym, _∙_, ap}
@@ -15,7 +15,7 @@ use Rattle.calculus.specs.Letter.{Letter, byte}
 use Rattle.calculus.specs.Term.{Term, text, size}
 use Rattle.calculus.specs.Order.{Next, next, within, leftmost}
 use Rattle.calculus.proofs.PrefixCode.{length-text}
-use Rattle.stepping.specs.Spot.{Holds, StepsTo, Spot, stopFrom, firstStop}
+use Rattle.stepping.specs.Spot.{Begins, Spot, stopFrom, firstStop}
 
 -- ---- the loop
 
@@ -198,10 +198,10 @@ spot-within {t} {p} spot =
     )
 
 -- the first bytes of a list that holds a term are its text
-pub held : {s : List ℕ} {len : ℕ} (h : Holds s len) → take len s ≡ text (h .term)
+pub held : {s : List ℕ} {len : ℕ} (h : Begins s len) → take len s ≡ text (h .term)
 held {s} {len} h = ap (take len) (h .spelt) ∙ take-at (text (h .term)) (h .rest) len (length-text (h .term) ∙ sym (h .sized))
 
-module _ {s : List ℕ} {len : ℕ} (h : Holds s len) (r : ℕ) (first : r ≡ firstStop (take len s)) where
+module _ {s : List ℕ} {len : ℕ} (h : Begins s len) (r : ℕ) (first : r ≡ firstStop (take len s)) where
   stop-of : r ≡ firstStop (text (h .term))
   stop-of = first ∙ ap firstStop (held h)
 

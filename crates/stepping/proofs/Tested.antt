@@ -1,11 +1,10 @@
 -- What the tests for letters say of the right side of a rule: a byte that is a letter's picks that letter's case, and one that is none of
 -- those tested picks the last case. Assumes nothing.
-use Prim.Native.Nat.{ℕ, _+_, _≤_}
-use native.Mathlib.Omega.{arith}
+use Prim.Native.Nat.{ℕ, _+_}
 use mathlib.Core.Path.{_≡_, refl, sym, _∙_, ap, ap₂}
 use mathlib.Core.List.{List}
 use mathlib.Core.Option.{Option, none, some}
-use lib.ListN.{length, getD}
+use lib.ListN.{getD}
 use Rattle.calculus.specs.Letter.{Letter, byte, letterOf}
 use Rattle.calculus.proofs.PrefixCode.{letterOf-byte, byte-letterOf}
 use Rattle.stepping.specs.Skip.{endAt}

@@ -1,14 +1,16 @@
 -- The right side of each rule, as what is kept, written and left out of a text whose redex begins at p.
 -- In `. B u s a` and `. A s t a` the first part of the function begins at p + 2; `mid` and `end` are the indices behind its two parts.
-use Prim.Native.Nat.{ℕ, zero, suc, _+_, _-_}
+use Prim.Native.Nat.{ℕ, zero, suc, _+_}
 use mathlib.Core.List.{List, [], _∷_, _++_}
 use mathlib.Core.Option.{Option, none, some}
-use lib.ListN.{length, getD}
+use lib.ListN.{getD}
 use Rattle.calculus.specs.Letter.{Letter, byte, letterOf}
 use Rattle.slices.specs.Part.{part}
 use Rattle.stepping.specs.Skip.{endAt}
 use Rattle.stepping.specs.declared.rewrite.Rewrite.{Rewrite}
 
+-- the rewrite of these fields: the text before `keep`, a letter (0 for none), the parts from..to, since..until and from..again, and the
+-- text from `rest` on
 abbrev pub rewriteBy : (rule keep letter from to since until again rest : ℕ) → Rewrite
 rewriteBy rule keep letter from to since until again rest =
     record { rule = rule; keep = keep; letter = letter; from = from; to = to; since = since; until = until; again = again; rest = rest }
@@ -40,18 +42,20 @@ onPair (some Letter.I) p mid end third = onePart 10 p 0 0 0 end
 onPair (some Letter.B) p mid end third = doubled 11 p (byte Letter.B) p end third
 onPair (some Letter.stop) p mid end third = doubled 11 p (byte Letter.B) p end third
 
+-- rules 6 to 11, where the ends of the parts are found in s
 abbrev pub pairOf : (s : List ℕ) (p : ℕ) → Rewrite
 pairOf s p =
     let mid = endAt s (p + 2) in
     let end = endAt s mid in
     onPair (letterOf (getD s end 0)) p mid end (endAt s (end + 1))
 
+-- rule 4, where the ends of the parts are found in s
 abbrev pub closureOf : (s : List ℕ) (p : ℕ) → Rewrite
 closureOf s p =
     let end = endAt s (endAt s (p + 2)) in
     entered p end (endAt s end)
 
--- by the first letter of the function
+-- rules 1 to 11, by the first letter of the function
 abbrev pub onFunction : Option Letter → (s : List ℕ) (p : ℕ) → Rewrite
 onFunction none s p = pairOf s p
 onFunction (some Letter.J) s p = frozen 1 p
@@ -62,6 +66,7 @@ onFunction (some Letter.I) s p = onePart 5 p 0 0 0 (p + 2)
 onFunction (some Letter.B) s p = pairOf s p
 onFunction (some Letter.stop) s p = pairOf s p
 
+-- what the rule that applies at p makes of s
 unfoldable pub rewriteOf : (s : List ℕ) (p : ℕ) → Rewrite
 rewriteOf s p = onFunction (letterOf (getD s (p + 1) 0)) s p
 

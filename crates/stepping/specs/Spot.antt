@@ -13,7 +13,7 @@ use Rattle.calculus.specs.Order.{Next, next}
 use Rattle.stepping.specs.Skip.{endAt}
 
 -- a list that begins with the text of a term, of that length
-pub record Holds (s : List ℕ) (len : ℕ) : Type 0 where
+pub record Begins (s : List ℕ) (len : ℕ) : Type 0 where
   pub term : Term
   pub rest : List ℕ
   pub spelt : s ≡ text term ++ rest
@@ -45,15 +45,15 @@ firstStop [] = zero
 firstStop (b ∷ s) = stopFrom (eqb b (byte Letter.stop)) (firstStop s)
 
 -- where the search goes from the application at p: to its function, to the argument of its pair, or no further
-pub data Turn (s : List ℕ) (p : ℕ) : ℕ → Type 0 where
-  function : getD s (p + 1) 0 ≡ byte Letter.stop → Turn s p (p + 1)
+pub data Move (s : List ℕ) (p : ℕ) : ℕ → Type 0 where
+  function : getD s (p + 1) 0 ≡ byte Letter.stop → Move s p (p + 1)
   argument :
-      {end : ℕ} → end ≡ endAt s (p + 1) → getD s (p + 1) 0 ≡ byte Letter.B → getD s end 0 ≡ byte Letter.stop → Turn s p end
+      {end : ℕ} → end ≡ endAt s (p + 1) → getD s (p + 1) 0 ≡ byte Letter.B → getD s end 0 ≡ byte Letter.stop → Move s p end
   here :
       ¬ (getD s (p + 1) 0 ≡ byte Letter.stop) →
-      (getD s (p + 1) 0 ≡ byte Letter.B → ¬ (getD s (endAt s (p + 1)) 0 ≡ byte Letter.stop)) → Turn s p p
+      (getD s (p + 1) 0 ≡ byte Letter.B → ¬ (getD s (endAt s (p + 1)) 0 ≡ byte Letter.stop)) → Move s p p
 
 -- what the search ends at: nothing in a normal term, else an application to which a rule applies
 pub data Found (t : Term) (s : List ℕ) (len : ℕ) : ℕ → Type 0 where
   nothing : next t ≡ Next.stop → Found t s len len
-  redex : {p : ℕ} → Spot t p → Turn s p p → Found t s len p
+  redex : {p : ℕ} → Spot t p → Move s p p → Found t s len p

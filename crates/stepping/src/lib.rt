@@ -16,7 +16,7 @@ ghost use Rattle.calculus.specs.Term.{Term, text};
 ghost use Rattle.calculus.specs.Order.{next};
 ghost use Rattle.slices.specs.Wrote.{Wrote};
 ghost use Rattle.stepping.specs.Areas.{holding};
-ghost use Rattle.stepping.specs.Spot.{Holds};
+ghost use Rattle.stepping.specs.Spot.{Begins};
 ghost use Rattle.stepping.specs.Stepping.{After, stepNext, steppingOf};
 ghost use Rattle.stepping.specs.Answer.{answerOf};
 
@@ -47,7 +47,7 @@ fn clear(area: &mut [u8], size: usize, work: &mut [u8])
     slices::zero_from(work, 0);
 }
 
-// Moves the new term, the first `size` bytes of the work area, to the term area.
+// Moves the new term, the first `size` bytes of the work area, to the term area, with zeros behind it and in the work area.
 fn put_back(area: &mut [u8], size: usize, work: &mut [u8])
     ensures { λ _. ⌜ ((t : Term) (old : List ℕ) → Wrote 0 size (text t) old (now (work .entry)) → size ≤ length (now (area .entry))
         → now (area .exit) ≡ holding t (now (area .entry))) ⌝ }
@@ -60,7 +60,7 @@ fn put_back(area: &mut [u8], size: usize, work: &mut [u8])
 // One step of the term in the first `len` bytes, or what keeps it from one.
 fn advance(area: &mut [u8], len: usize, work: &mut [u8]) -> Stepping
     requires { ⌜ (len ≤ length (now area)) × (length (now area) ≤ length (now work)) ⌝ }
-    ensures { λ r. ⌜ ((h : Holds (now (area .entry)) len)
+    ensures { λ r. ⌜ ((h : Begins (now (area .entry)) len)
         → After.after (answerOf r) (now (area .exit)) (now (work .exit))
         ≡ stepNext (h .term) (next (h .term)) (now (area .entry)) (now (work .entry))) ⌝ }
 {
@@ -79,7 +79,7 @@ fn advance(area: &mut [u8], len: usize, work: &mut [u8]) -> Stepping
     Stepping::Done(w.rule, size)
 }
 
-// One step of the term in the first `len` bytes of the area; the work area is at least as long as the area.
+// One step of the term in the first `len` bytes of the area. A refusal leaves both areas as they are.
 pub fn step(area: &mut [u8], len: usize, work: &mut [u8]) -> Stepping
     ensures { λ r. ⌜ After.after (answerOf r) (now (area .exit)) (now (work .exit)) ≡ steppingOf (now (area .entry)) len (now (work .entry)) ⌝ }
 {

@@ -26,6 +26,7 @@ pub(crate) struct Rewrite {
     pub rest: usize,
 }
 
+// The rewrite of these fields.
 fn made(
     rule: u8,
     keep: usize,

@@ -4,7 +4,7 @@ use slices::byte_at;
 ghost use mathlib.Core.Path.{_≡_};
 ghost use Prim.Native.Nat.{_≤_, _<_};
 ghost use lib.ListN.{length, take};
-ghost use Rattle.stepping.specs.Spot.{Holds, Found, Turn, firstStop};
+ghost use Rattle.stepping.specs.Spot.{Begins, Found, Move, firstStop};
 
 // The index of the first full stop among the first `len` bytes, or `len`.
 fn first_stop(s: &[u8], len: usize) -> usize
@@ -22,9 +22,9 @@ fn first_stop(s: &[u8], len: usize) -> usize
 }
 
 // Where the search goes from the application at `p`; `p` itself where a rule applies.
-fn turn(s: &[u8], p: usize) -> usize
+fn next_place(s: &[u8], p: usize) -> usize
     requires { ⌜ p < length (now s) ⌝ }
-    ensures { λ r. ⌜ Turn (now (s .entry)) p r ⌝ }
+    ensures { λ r. ⌜ Move (now (s .entry)) p r ⌝ }
 {
     let head = byte_at(s, p + 1);
     if head == b'.' {
@@ -44,16 +44,16 @@ fn turn(s: &[u8], p: usize) -> usize
 pub(crate) fn redex(s: &[u8], len: usize) -> usize
     requires { ⌜ len ≤ length (now s) ⌝ }
     ensures within { λ r. ⌜ ((r ≡ len → ⊥) → r < length (now (s .entry))) ⌝ }
-    ensures found { λ r. ⌜ ((h : Holds (now (s .entry)) len) → Found (h .term) (now (s .entry)) len r) ⌝ }
+    ensures found { λ r. ⌜ ((h : Begins (now (s .entry)) len) → Found (h .term) (now (s .entry)) len r) ⌝ }
 {
     let mut p = first_stop(s, len);
     if p == len {
         return len;
     }
-    let mut q = turn(s, p);
+    let mut q = next_place(s, p);
     while q != p {
         p = q;
-        q = turn(s, p);
+        q = next_place(s, p);
     }
     p
 }

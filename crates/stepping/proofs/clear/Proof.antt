@@ -20,7 +20,9 @@ same-length-2 : tie.Need-same-length-2
 same-length-2 c = search needs
 
 returns : tie.Need-returns
-returns c = (c .before .before .before .before .before .before .zero-from .ensures, c .before .before .zero-from2 .ensures ∙ ap (λ (n : ℕ). replicate n 0) (sub-zero (length (c .before .before .before .before .before .before .before .before .before .before .args .work .now))))
+returns c =
+    let a = c .before .before .before .before .before .before .before .before .before .before .args in
+    (c .before .before .before .before .before .before .zero-from .ensures, c .before .before .zero-from2 .ensures ∙ ap (λ (n : ℕ). replicate n 0) (sub-zero (length (a .work .now))))
 
 pub clear-spec : {M : Type 1} → statement M
 clear-spec =

@@ -17,7 +17,13 @@ same-length-2 : tie.Need-same-length-2
 same-length-2 c = search needs
 
 returns : tie.Need-returns
-returns c = (holding-put (c .before .before .before .before .before .before .before .before .before .before .before .before .before .before .args .size) (c .before .before .before .before .before .before .before .before .before .before .before .before .before .before .args .work .now) (c .before .before .before .before .before .before .before .before .before .before .before .before .before .before .args .area .now) (c .before .before .before .before .before .before .before .before .before .append .last .1 .1 .1 .0) (c .before .before .before .before .clear .last .0) (c .before .before .before .before .before .before .before .before .before .append .ensures .0) (c .before .before .before .before .clear .ensures .0), c .before .before .before .before .clear .ensures .1)
+returns c =
+    let a = c .before .before .before .before .before .before .before .before .before .before .before .before .before .before .args in
+    let put = c .before .before .before .before .before .before .before .before .before .append in
+    let cleared = c .before .before .before .before .clear in (
+      holding-put (a .size) (a .work .now) (a .area .now) (put .last .1 .1 .1 .0) (cleared .last .0) (put .ensures .0) (cleared .ensures .0),
+      cleared .ensures .1,
+    )
 
 pub put-back-spec : {M : Type 1} → statement M
 put-back-spec =

@@ -30,19 +30,27 @@ unread area len work short enough within (NotWhole place) e k = reading-refused 
 unread area len work short enough within (Beyond place) e k = reading-refused area len work short enough within 7 place e
 
 returns : tie.Need-returns
-returns c = area-refused (c .before .before .before .args .area .now) (c .before .before .before .args .len) (c .before .before .before .args .work .now) (c .if1 .taken)
+returns c =
+    let a = c .before .before .before .args in
+    area-refused (a .area .now) (a .len) (a .work .now) (c .if1 .taken)
 
 returns-2 : tie.Need-returns-2
-returns-2 c = work-refused (c .before .before .before .before .args .area .now) (c .before .before .before .before .args .len) (c .before .before .before .before .args .work .now) (c .before .if1 .left) (c .if2 .taken)
+returns-2 c =
+    let a = c .before .before .before .before .args in
+    work-refused (a .area .now) (a .len) (a .work .now) (c .before .if1 .left) (c .if2 .taken)
 
 returns-3 : tie.Need-returns-3
-returns-3 c = length-refused (c .before .before .before .before .before .args .area .now) (c .before .before .before .before .before .args .len) (c .before .before .before .before .before .args .work .now) (c .before .before .if1 .left) (c .before .if2 .left) (c .if3 .taken)
+returns-3 c =
+    let a = c .before .before .before .before .before .args in
+    length-refused (a .area .now) (a .len) (a .work .now) (c .before .before .if1 .left) (c .before .if2 .left) (c .if3 .taken)
 
 slice-reshare-prefix-read : tie.Need-slice-reshare-prefix-read
 slice-reshare-prefix-read c = search needs
 
 slice-aggregate-read : tie.Need-slice-aggregate-read
-slice-aggregate-read c = sym (length-take-le (c .before .before .before .before .before .before .args .len) (c .before .before .before .before .before .before .args .area .now) (c .before .if3 .left))
+slice-aggregate-read c =
+    let a = c .before .before .before .before .before .before .args in
+    sym (length-take-le (a .len) (a .area .now) (c .before .if3 .left))
 
 read-requires : tie.Need-read-requires
 read-requires c κs = search needs
@@ -54,10 +62,17 @@ same-length : tie.Need-same-length
 same-length c = search needs
 
 returns-4 : tie.Need-returns-4
-returns-4 c = unread (c .before .before .before .before .before .before .before .before .args .area .now) (c .before .before .before .before .before .before .before .before .args .len) (c .before .before .before .before .before .before .before .before .args .work .now) (c .before .before .before .before .before .if1 .left) (c .before .before .before .before .if2 .left) (c .before .before .before .if3 .left) (c .before .read .result) (c .before .read .ensures) (c .match .keys2)
+returns-4 c =
+    let a = c .before .before .before .before .before .before .before .before .args in
+    unread (a .area .now) (a .len) (a .work .now) (c .before .before .before .before .before .if1 .left) (c .before .before .before .before .if2 .left) (c .before .before .before .if3 .left) (c .before .read .result) (c .before .read .ensures) (c .match .keys2)
 
 advance-requires : tie.Need-advance-requires
-advance-requires c κs = (reading-answered (c .before .before .before .before .before .before .before .before .before .before .before .before .args .area .now) (c .before .before .before .before .before .before .before .before .before .before .before .before .args .len) (c .before .before .before .before .before .before .before .before .before .before .before .before .args .work .now) (c .before .before .before .before .before .before .before .before .before .if1 .left) (c .before .before .before .before .before .before .before .before .if2 .left) (c .before .before .before .before .before .before .before .if3 .left) (c .before .before .before .reading .given .0 .0) (ap readingAnswer (sym (c .before .before .before .reading .given .1)) ∙ c .before .before .before .before .before .read .ensures) .1, c .before .before .before .before .before .before .before .before .if2 .left)
+advance-requires c κs =
+    let a = c .before .before .before .before .before .before .before .before .before .before .before .before .args in
+    let reading = c .before .before .before .reading .given in
+    let answer = ap readingAnswer (sym (reading .1)) ∙ c .before .before .before .before .before .read .ensures in
+    let read = reading-answered (a .area .now) (a .len) (a .work .now) (c .before .before .before .before .before .before .before .before .before .if1 .left) (c .before .before .before .before .before .before .before .before .if2 .left) (c .before .before .before .before .before .before .before .if3 .left) (reading .0 .0) answer in
+    (read .1, c .before .before .before .before .before .before .before .before .if2 .left)
 
 same-length-2 : tie.Need-same-length-2
 same-length-2 c = search needs
@@ -67,7 +82,10 @@ same-length-3 c = search needs
 
 returns-5 : tie.Need-returns-5
 returns-5 c =
-    let read = reading-answered (c .before .before .before .before .before .before .before .before .before .before .before .before .before .before .before .before .before .args .area .now) (c .before .before .before .before .before .before .before .before .before .before .before .before .before .before .before .before .before .args .len) (c .before .before .before .before .before .before .before .before .before .before .before .before .before .before .before .before .before .args .work .now) (c .before .before .before .before .before .before .before .before .before .before .before .before .before .before .if1 .left) (c .before .before .before .before .before .before .before .before .before .before .before .before .before .if2 .left) (c .before .before .before .before .before .before .before .before .before .before .before .before .if3 .left) (c .before .before .before .before .before .before .before .before .reading .given .0 .0) (ap readingAnswer (sym (c .before .before .before .before .before .before .before .before .reading .given .1)) ∙ c .before .before .before .before .before .before .before .before .before .before .read .ensures) in
+    let a = c .before .before .before .before .before .before .before .before .before .before .before .before .before .before .before .before .before .args in
+    let reading = c .before .before .before .before .before .before .before .before .reading .given in
+    let answer = ap readingAnswer (sym (reading .1)) ∙ c .before .before .before .before .before .before .before .before .before .before .read .ensures in
+    let read = reading-answered (a .area .now) (a .len) (a .work .now) (c .before .before .before .before .before .before .before .before .before .before .before .before .before .before .if1 .left) (c .before .before .before .before .before .before .before .before .before .before .before .before .before .if2 .left) (c .before .before .before .before .before .before .before .before .before .before .before .before .if3 .left) (reading .0 .0) answer in
     c .before .before .before .before .advance .ensures (read .0) ∙ sym (read .2)
 
 pub step-spec : {M : Type 1} → statement M

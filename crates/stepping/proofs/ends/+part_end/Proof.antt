@@ -5,7 +5,7 @@ use mathlib.Core.Path.{_∙_}
 use native.Mathlib.Omega.{arith}
 use borrow.Author.Needs.{needs}
 use lib.ListN.{length}
-use Rattle.stepping.proofs.Skip.{end-past, end-one, end-two, end-leaf, end-behind}
+use Rattle.stepping.proofs.Skip.{end-past, end-one, end-two, end-leaf}
 use borrow.Fn.Kinds.{In}
 use borrow.Fn.PlainCycle.{Measures, is, falls, and}
 use Rattle.stepping.proofs.ends.part_end.Reads as part-end
@@ -77,7 +77,9 @@ part-end-returns-2 : (t : ℕ) → part-end-lts.Need-returns-2 (
   part-end-below t,
   part-end.Post,
 ) (part-end-at t) part-end.Post
-part-end-returns-2 t c = c .part-end .ensures ∙ end-one (c .before .before .before .before .before .before .args .s .now) (c .before .before .before .before .before .before .args .at) (c .before .before .parts-of .result) (c .before .before .before .before .if1 .left) (c .before .before .parts-of .ensures) (c .before .if2 .taken)
+part-end-returns-2 t c =
+    let a = c .before .before .before .before .before .before .args in
+    c .part-end .ensures ∙ end-one (a .s .now) (a .at) (c .before .before .parts-of .result) (c .before .before .before .before .if1 .left) (c .before .before .parts-of .ensures) (c .before .if2 .taken)
 
 -- src/ends.rt:17:31
 part-end-add-part-end-2 : (t : ℕ) → part-end-lts.Need-add-part-end-2 (
@@ -113,7 +115,9 @@ part-end-returns-3 : (t : ℕ) → part-end-lts.Need-returns-3 (
   part-end-below t,
   part-end.Post,
 ) (part-end-at t) part-end.Post
-part-end-returns-3 t c = c .part-end3 .ensures ∙ end-two (c .before .before .before .before .before .before .before .before .args .s .now) (c .before .before .before .before .before .before .before .before .args .at) (c .before .before .before .before .parts-of .result) (c .before .before .before .before .before .before .if1 .left) (c .before .before .before .before .parts-of .ensures) (c .before .part-end2 .result) (c .before .before .if3 .taken) (c .before .part-end2 .ensures)
+part-end-returns-3 t c =
+    let a = c .before .before .before .before .before .before .before .before .args in
+    c .part-end3 .ensures ∙ end-two (a .s .now) (a .at) (c .before .before .before .before .parts-of .result) (c .before .before .before .before .before .before .if1 .left) (c .before .before .before .before .parts-of .ensures) (c .before .part-end2 .result) (c .before .before .if3 .taken) (c .before .part-end2 .ensures)
 
 -- src/ends.rt:20:5
 part-end-add-result : (t : ℕ) → part-end-lts.Need-add-result (
@@ -131,7 +135,9 @@ part-end-returns-4 : (t : ℕ) → part-end-lts.Need-returns-4 (
   part-end-below t,
   part-end.Post,
 ) (part-end-at t) part-end.Post
-part-end-returns-4 t c = end-leaf (c .before .before .before .before .before .before .args .s .now) (c .before .before .before .before .before .before .args .at) (c .before .before .parts-of .result) (c .before .before .before .before .if1 .left) (c .before .before .parts-of .ensures) (c .before .if2 .left) (c .if3 .left)
+part-end-returns-4 t c =
+    let a = c .before .before .before .before .before .before .args in
+    end-leaf (a .s .now) (a .at) (c .before .before .parts-of .result) (c .before .before .before .before .if1 .left) (c .before .before .parts-of .ensures) (c .before .if2 .left) (c .if3 .left)
 
 pub +part-end-spec : {M : Type 1} → statement M
 +part-end-spec = close μ-part-end λ t. part-end-lts.spec (

@@ -10,7 +10,13 @@ use Rattle.stepping.proofs.rewrite.append_letter.Statement.{statement}
 use Rattle.stepping.proofs.rewrite.append_letter.Tie as tie
 
 returns : tie.Need-returns
-returns c = let nothing = put-nothing (c .before .before .args .at) (c .before .before .args .dst .now) in (nothing .0 ∙ ap (λ (n : ℕ). put (c .before .before .args .at) (letterText n) (c .before .before .args .dst .now)) (sym (c .if1 .taken)), nothing .1 ∙ ap (λ (n : ℕ). behind (c .before .before .args .at) (letterText n) (c .before .before .args .dst .now)) (sym (c .if1 .taken)))
+returns c =
+    let a = c .before .before .args in
+    let zero = sym (c .if1 .taken) in
+    let nothing = put-nothing (a .at) (a .dst .now) in (
+      nothing .0 ∙ ap (λ (n : ℕ). put (a .at) (letterText n) (a .dst .now)) zero,
+      nothing .1 ∙ ap (λ (n : ℕ). behind (a .at) (letterText n) (a .dst .now)) zero,
+    )
 
 append-byte-requires : tie.Need-append-byte-requires
 append-byte-requires c κs = search needs
@@ -19,7 +25,13 @@ same-length : tie.Need-same-length
 same-length c = search needs
 
 returns-2 : tie.Need-returns-2
-returns-2 c = let text = letter-text (c .before .before .before .before .before .before .args .b) (c .before .before .before .before .if1 .left) in (c .before .before .append-byte .ensures .0 ∙ ap (λ (l : List ℕ). put (c .before .before .before .before .before .before .args .at) l (c .before .before .before .before .before .before .args .dst .now)) text, c .before .before .append-byte .ensures .1 ∙ ap (λ (l : List ℕ). behind (c .before .before .before .before .before .before .args .at) l (c .before .before .before .before .before .before .args .dst .now)) text)
+returns-2 c =
+    let a = c .before .before .before .before .before .before .args in
+    let appended = c .before .before .append-byte .ensures in
+    let text = letter-text (a .b) (c .before .before .before .before .if1 .left) in (
+      appended .0 ∙ ap (λ (l : List ℕ). put (a .at) l (a .dst .now)) text,
+      appended .1 ∙ ap (λ (l : List ℕ). behind (a .at) l (a .dst .now)) text,
+    )
 
 pub append-letter-spec : {M : Type 1} → statement M
 append-letter-spec = tie.close (tie.spec returns append-byte-requires same-length returns-2)

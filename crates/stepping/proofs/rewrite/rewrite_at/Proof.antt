@@ -23,7 +23,9 @@ one-part-requires : tie.Need-one-part-requires
 one-part-requires c κs = search needs
 
 returns : tie.Need-returns
-returns c = c .one-part .ensures ∙ rewrite-letter (c .before .before .before .before .args .s .now) (c .before .before .before .before .args .p) Letter.J (sym (c .before .before .byte-at .ensures) ∙ c .before .if1 .taken)
+returns c =
+    let a = c .before .before .before .before .args in
+    c .one-part .ensures ∙ rewrite-letter (a .s .now) (a .p) Letter.J (sym (c .before .before .byte-at .ensures) ∙ c .before .if1 .taken)
 
 add-one-part-2 : tie.Need-add-one-part-2
 add-one-part-2 c = search needs
@@ -32,7 +34,9 @@ one-part-requires-2 : tie.Need-one-part-requires-2
 one-part-requires-2 c κs = search needs
 
 returns-2 : tie.Need-returns-2
-returns-2 c = c .one-part2 .ensures ∙ rewrite-letter (c .before .before .before .before .before .args .s .now) (c .before .before .before .before .before .args .p) Letter.R (sym (c .before .before .before .byte-at .ensures) ∙ c .before .if2 .taken)
+returns-2 c =
+    let a = c .before .before .before .before .before .args in
+    c .one-part2 .ensures ∙ rewrite-letter (a .s .now) (a .p) Letter.R (sym (c .before .before .before .byte-at .ensures) ∙ c .before .if2 .taken)
 
 add-one-part-3 : tie.Need-add-one-part-3
 add-one-part-3 c = search needs
@@ -41,7 +45,9 @@ one-part-requires-3 : tie.Need-one-part-requires-3
 one-part-requires-3 c κs = search needs
 
 returns-3 : tie.Need-returns-3
-returns-3 c = c .one-part3 .ensures ∙ rewrite-letter (c .before .before .before .before .before .before .args .s .now) (c .before .before .before .before .before .before .args .p) Letter.H (sym (c .before .before .before .before .byte-at .ensures) ∙ c .before .if3 .taken)
+returns-3 c =
+    let a = c .before .before .before .before .before .before .args in
+    c .one-part3 .ensures ∙ rewrite-letter (a .s .now) (a .p) Letter.H (sym (c .before .before .before .before .byte-at .ensures) ∙ c .before .if3 .taken)
 
 add-one-part-4 : tie.Need-add-one-part-4
 add-one-part-4 c = search needs
@@ -50,7 +56,9 @@ one-part-requires-4 : tie.Need-one-part-requires-4
 one-part-requires-4 c κs = search needs
 
 returns-4 : tie.Need-returns-4
-returns-4 c = c .one-part4 .ensures ∙ rewrite-letter (c .before .before .before .before .before .before .before .args .s .now) (c .before .before .before .before .before .before .before .args .p) Letter.I (sym (c .before .before .before .before .before .byte-at .ensures) ∙ c .before .if4 .taken)
+returns-4 c =
+    let a = c .before .before .before .before .before .before .before .args in
+    c .one-part4 .ensures ∙ rewrite-letter (a .s .now) (a .p) Letter.I (sym (c .before .before .before .before .before .byte-at .ensures) ∙ c .before .if4 .taken)
 
 add-part-end : tie.Need-add-part-end
 add-part-end c = search needs

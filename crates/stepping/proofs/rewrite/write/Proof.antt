@@ -32,12 +32,18 @@ returns c =
     let a = c .before .before .before .before .before .before .before .before .before .before .before .before .before .before .before .before .before .before .before .before .before .before .before .before .before .before .args in
     let w = a .w in
     let s = a .s .now in
-    let kept = wrote-first (part 0 (w .keep) s) (c .before .before .before .before .before .before .before .before .before .before .before .before .before .before .before .before .before .before .before .before .before .before .append .ensures .0) (c .before .before .before .before .before .before .before .before .before .before .before .before .before .before .before .before .before .before .before .before .before .before .append .ensures .1) in
-    let lettered = wrote-more (letterText (w .letter)) kept (c .before .before .before .before .before .before .before .before .before .before .before .before .before .before .before .before .before .before .append-letter .ensures .0) (c .before .before .before .before .before .before .before .before .before .before .before .before .before .before .before .before .before .before .append-letter .ensures .1) in
-    let first = wrote-more (part (w .from) (w .to) s) lettered (c .before .before .before .before .before .before .before .before .before .before .before .before .before .before .append2 .ensures .0) (c .before .before .before .before .before .before .before .before .before .before .before .before .before .before .append2 .ensures .1) in
-    let second = wrote-more (part (w .since) (w .until) s) first (c .before .before .before .before .before .before .before .before .before .before .append3 .ensures .0) (c .before .before .before .before .before .before .before .before .before .before .append3 .ensures .1) in
-    let third = wrote-more (part (w .from) (w .again) s) second (c .before .before .before .before .before .before .append4 .ensures .0) (c .before .before .before .before .before .before .append4 .ensures .1) in
-    wrote-more (part (w .rest) (a .len) s) third (c .before .before .append5 .ensures .0) (c .before .before .append5 .ensures .1)
+    let e₁ = c .before .before .before .before .before .before .before .before .before .before .before .before .before .before .before .before .before .before .before .before .before .before .append .ensures in
+    let e₂ = c .before .before .before .before .before .before .before .before .before .before .before .before .before .before .before .before .before .before .append-letter .ensures in
+    let e₃ = c .before .before .before .before .before .before .before .before .before .before .before .before .before .before .append2 .ensures in
+    let e₄ = c .before .before .before .before .before .before .before .before .before .before .append3 .ensures in
+    let e₅ = c .before .before .before .before .before .before .append4 .ensures in
+    let e₆ = c .before .before .append5 .ensures in
+    let kept = wrote-first (part 0 (w .keep) s) (e₁ .0) (e₁ .1) in
+    let lettered = wrote-more (letterText (w .letter)) kept (e₂ .0) (e₂ .1) in
+    let first = wrote-more (part (w .from) (w .to) s) lettered (e₃ .0) (e₃ .1) in
+    let second = wrote-more (part (w .since) (w .until) s) first (e₄ .0) (e₄ .1) in
+    let third = wrote-more (part (w .from) (w .again) s) second (e₅ .0) (e₅ .1) in
+    wrote-more (part (w .rest) (a .len) s) third (e₆ .0) (e₆ .1)
 
 pub write-spec : {M : Type 1} → statement M
 write-spec =

@@ -1,9 +1,9 @@
 -- `stepping::search::first_stop` meets its contract. The loop's invariant: the bytes before `at` are counted, and the rest is still to be
 -- looked at. The measure is what is left of `len`. Assumes nothing.
-use Prim.Native.Nat.{ℕ, _≤_, _+_, _-_}
-use mathlib.Core.Path.{_≡_, sym, _∙_}
+use Prim.Native.Nat.{_≤_, _+_, _-_}
+use mathlib.Core.Path.{_≡_}
 use native.Mathlib.Omega.{arith}
-use lib.ListN.{length, drop, take}
+use lib.ListN.{drop, take}
 use Rattle.stepping.specs.Spot.{firstStop}
 use Rattle.stepping.proofs.Stops.{stop-here, stop-later, stop-end}
 use Rattle.stepping.proofs.search.first_stop.Statement.{statement}
@@ -22,7 +22,9 @@ shared-slice-read-if1 : tie.Need-shared-slice-read-if1 Inv-loop μ-loop
 shared-slice-read-if1 c = omega arith
 
 returns : tie.Need-returns Inv-loop μ-loop
-returns c = omega (arith, stop-here (c .before .before .before .before .args .s .now) (c .before .before .before .before .args .len) (c .before .before .before .loop .at) (c .before .before .before .before .pre) (c .before .before .loop-test .taken) (c .if1 .taken))
+returns c =
+    let a = c .before .before .before .before .args in
+    omega (arith, stop-here (a .s .now) (a .len) (c .before .before .before .loop .at) (c .before .before .before .before .pre) (c .before .before .loop-test .taken) (c .if1 .taken))
 
 add-at : tie.Need-add-at Inv-loop μ-loop
 add-at c = omega arith
@@ -31,10 +33,14 @@ loop-less : tie.Need-loop-less Inv-loop μ-loop
 loop-less c = omega arith
 
 loop-again : tie.Need-loop-again Inv-loop μ-loop
-loop-again c = (omega arith, omega (arith, stop-later (c .before .before .before .before .args .s .now) (c .before .before .before .before .args .len) (c .before .before .before .loop .at) (c .before .before .before .before .pre) (c .before .before .loop-test .taken) (c .if1 .left)))
+loop-again c =
+    let a = c .before .before .before .before .args in
+    (omega arith, omega (arith, stop-later (a .s .now) (a .len) (c .before .before .before .loop .at) (c .before .before .before .before .pre) (c .before .before .loop-test .taken) (c .if1 .left)))
 
 returns-2 : tie.Need-returns-2 Inv-loop μ-loop
-returns-2 c = omega (arith, stop-end (c .before .before .args .s .now) (c .before .before .args .len) (c .before .loop .at) (c .before .before .pre) (omega arith))
+returns-2 c =
+    let a = c .before .before .args in
+    omega (arith, stop-end (a .s .now) (a .len) (c .before .loop .at) (c .before .before .pre) (omega arith))
 
 pub first-stop-spec : {M : Type 1} → statement M
 first-stop-spec =

@@ -1,0 +1,4 @@
+pub mod Calls
+pub mod Turning
+pub mod Verdicts
+pub mod Ending
