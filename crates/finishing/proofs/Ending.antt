@@ -17,7 +17,7 @@ use Rattle.stepping.specs.Areas.{holding, cleared}
 use Rattle.stepping.specs.Held.{Holds}
 use Rattle.finishing.specs.Finishing.{Ran, After, admitted, admission, recordOf, noRun, finishAdmitted, finishingOf}
 use Rattle.finishing.specs.Answer.{replyOf}
-use Rattle.finishing.specs.Turns.{Ready, Reaches}
+use Rattle.finishing.specs.Loop.{Ready, Reaches}
 use Rattle.finishing.specs.declared.Admission.{Admission}
 use Rattle.finishing.specs.declared.Admission.the-variants.{AreaTooLong, WorkTooShort, LengthTooLong, FuelTooHigh, Unread, Admitted}
 use Rattle.finishing.proofs.Admission.{the-type}

@@ -17,7 +17,7 @@ use Rattle.reading.specs.Reading.{termRead}
 use Rattle.stepping.specs.Areas.{holding}
 use Rattle.stepping.specs.Held.{Holds}
 use Rattle.stepping.specs.Stepping.{Stepped, After, stepTo, stepNext, stepAdmitted, steppingOf}
-use Rattle.finishing.specs.Turns.{StepsOn}
+use Rattle.finishing.specs.Loop.{StepsOn}
 use Rattle.finishing.proofs.Admitting.{term-read}
 
 -- the length is the size of the term

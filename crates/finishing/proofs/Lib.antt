@@ -3,5 +3,5 @@ pub mod Passing
 pub mod Admitting
 pub mod Stops
 pub mod Lending
-pub mod Turns
+pub mod Loop
 pub mod Ending

@@ -13,7 +13,7 @@ use Rattle.calculus.specs.Term.{Term, text}
 use Rattle.calculus.specs.Order.{Next, next}
 use Rattle.calculus.proofs.PrefixCode.{normal-text}
 use Rattle.calculus.proofs.Order.{next-is-stop, not-normal-step, step-next}
-use Rattle.finishing.specs.Turns.{hasStop}
+use Rattle.finishing.specs.Loop.{hasStop}
 
 -- ---- the loop
 

@@ -1,3 +1,3 @@
 pub mod Finishing
 pub mod Answer
-pub mod Turns
+pub mod Loop

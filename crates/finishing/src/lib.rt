@@ -10,7 +10,7 @@ ghost use Rattle.stepping.specs.Held.{Holds};
 ghost use Rattle.stepping.specs.Answer.{answerOf};
 ghost use Rattle.finishing.specs.Finishing.{After, admitted, admission, finishingOf};
 ghost use Rattle.finishing.specs.Answer.{replyOf, ranOf};
-ghost use Rattle.finishing.specs.Turns.{hasStop, Ready, StepsOn, Reaches};
+ghost use Rattle.finishing.specs.Loop.{hasStop, Ready, StepsOn, Reaches};
 
 // Whether a call is refused; specs/Answer.antt gives the number and the place of each case.
 pub enum Admission {

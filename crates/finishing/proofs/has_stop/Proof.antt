@@ -3,7 +3,7 @@ use Prim.Native.Nat.{_≤_, _-_}
 use native.Mathlib.Omega.{arith}
 use mathlib.Core.Path.{_≡_, refl, sym, _∙_}
 use lib.ListN.{length, drop}
-use Rattle.finishing.specs.Turns.{hasStop}
+use Rattle.finishing.specs.Loop.{hasStop}
 use Rattle.finishing.proofs.Stops.{stop-here, stop-later, stop-nowhere}
 use Rattle.finishing.proofs.has_stop.Statement.{statement}
 use Rattle.finishing.proofs.has_stop.Tie as tie

@@ -5,7 +5,7 @@ use mathlib.Core.Path.{_≡_, refl, sym, _∙_}
 use borrow.Author.Needs.{needs}
 use lib.ListN.{length}
 use lib.Seq.{length-take-le}
-use Rattle.finishing.proofs.Turns.{At, at-start, at-step, at-no-room, at-normal, at-stop, at-no-stop}
+use Rattle.finishing.proofs.Loop.{At, at-start, at-step, at-no-room, at-normal, at-stop, at-no-stop}
 use Rattle.finishing.proofs.run_term.Statement.{statement}
 use Rattle.finishing.proofs.run_term.Tie as tie
 

@@ -1,4 +1,4 @@
--- What the turns of finishing's loop ask of the areas, and what they leave.
+-- What one pass of finishing's loop asks of the areas, and what it leaves.
 -- Document 01: "Then over and over: finished if the term is normal; else spent if the steps made equal the fuel; else no room if the next
 -- term is larger than the area; else one step."
 use Prim.Native.Nat.{ℕ, _≤_, _<_}

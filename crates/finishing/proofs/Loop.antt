@@ -1,4 +1,4 @@
--- The turns of finishing's loop: its invariant, how a step keeps it, and what it comes to at each way out. Assumes nothing.
+-- Finishing's loop: its invariant, how a step keeps it, and what it comes to at each way out. Assumes nothing.
 use Prim.Native.Nat.{ℕ, _+_, _≤_, _<_}
 use native.Mathlib.Omega.{arith}
 use mathlib.Core.Path.{_≡_, refl, sym, _∙_, ap, subst}
@@ -21,7 +21,7 @@ use Rattle.stepping.specs.declared.Stepping.the-variants.{AreaTooLong, WorkTooS
 use Rattle.stepping.proofs.Stepping.{the-type}
 use Rattle.stepping.proofs.Calls.{held-unique}
 use Rattle.finishing.specs.Finishing.{Ran}
-use Rattle.finishing.specs.Turns.{hasStop, Ready, StepsOn, Reaches}
+use Rattle.finishing.specs.Loop.{hasStop, Ready, StepsOn, Reaches}
 use Rattle.finishing.proofs.Passing.{Passes, passes-start, passes-step, Comes, comes-finished, comes-spent, comes-no-room}
 use Rattle.finishing.proofs.Stops.{no-stop-next, stop-next}
 use Rattle.finishing.proofs.Lending.{held-size}
@@ -85,7 +85,7 @@ reaches {fuel} {len} {area} {size′} {made} {t} {u} o come held =
     }
 
 module _ {fuel : ℕ} {area₀ : List ℕ} {len made : ℕ} {area : List ℕ} {size : ℕ} {work : List ℕ} (at : At fuel area₀ len made area size work) where
-  -- ---- a turn
+  -- ---- one pass
 
   module _ {area′ : List ℕ} (r : Stepping) (more : made < fuel) (steps : (t : Term) → Holds area size t → StepsOn area area′ t (answerOf r)) where
     now : StepsOn area area′ (at .ready .term) (answerOf r)
