@@ -1,0 +1,150 @@
+-- The answers of `line::check_line`, test by test, and of what it calls. Assumes nothing.
+use Prim.Native.Nat.{ℕ, zero, suc, _+_}
+use native.Mathlib.Omega.{arith}
+use mathlib.Core.Path.{_≡_, refl, sym, _∙_, ap, ap₂}
+use mathlib.Core.Bool.{Bool, true, false, _&&_}
+use mathlib.Core.List.{List, [], _∷_}
+use mathlib.Core.Option.{Option, none, some}
+use lib.ListN.{length}
+use Rattle.reading.specs.Reply.{Reply}
+use Rattle.reading.specs.Reading.{atLetter, readingFrom, readingOf}
+use Rattle.calculus.specs.Letter.{Letter, letterOf, owed}
+use Rattle.calculus.specs.Term.{Term}
+use Rattle.calculus.specs.Parse.{Item, one, two, push, items, single, termOf}
+use Rattle.types.specs.Tests.{isSome}
+use Rattle.checking.specs.declared.fields.Judged.{Judged}
+use Rattle.checking.specs.declared.fields.SixFields.{SixFields}
+use Rattle.checking.specs.declared.premises.Cited.{Cited}
+use Rattle.checking.specs.declared.rules.Rule.{Rule}
+use Rattle.checking.specs.Fields.{judgedAt, textsAt}
+use Rattle.checking.specs.Cited.{isLine, citedFit, startOr}
+use Rattle.checking.specs.TextInstance.{instanceText}
+use Rattle.checking.specs.TextChecking.{instanceAt, isAnswered, unless, replyOf, ruleIn, firstIn, secondIn, lineReply}
+
+-- ---- the tests of a line, in their order
+
+abbrev tests : (a b c d e : Bool) → ℕ → Reply ℕ
+tests a b c d e line = unless a 14 line (unless b 15 line (unless c 16 line (unless d 17 line (unless e 18 line (Reply.answered line)))))
+
+module _ (a b c d e : Bool) (line : ℕ) where
+  pub not-six : a ≡ false → Reply.refused 14 line ≡ tests a b c d e line
+  not-six p = sym (ap (λ (t : Bool). tests t b c d e line) p)
+
+  pub malformed : a ≡ true → b ≡ false → Reply.refused 15 line ≡ tests a b c d e line
+  malformed p q = sym (ap₂ (λ (t u : Bool). tests t u c d e line) p q)
+
+  pub unknown : a ≡ true → b ≡ true → c ≡ false → Reply.refused 16 line ≡ tests a b c d e line
+  unknown p q r = sym (ap₂ (λ (t u : Bool). tests t u c d e line) p q ∙ ap (λ (t : Bool). tests true true t d e line) r)
+
+  pub bad-premise : a ≡ true → b ≡ true → c ≡ true → d ≡ false → Reply.refused 17 line ≡ tests a b c d e line
+  bad-premise p q r s = sym (ap₂ (λ (t u : Bool). tests t u c d e line) p q ∙ ap₂ (λ (t u : Bool). tests true true t u e line) r s)
+
+  held : a ≡ true → b ≡ true → c ≡ true → d ≡ true → tests a b c d e line ≡ tests true true true true e line
+  held p q r s = ap₂ (λ (t u : Bool). tests t u c d e line) p q ∙ ap₂ (λ (t u : Bool). tests true true t u e line) r s
+
+  pub no-instance : a ≡ true → b ≡ true → c ≡ true → d ≡ true → e ≡ false → Reply.refused 18 line ≡ tests a b c d e line
+  no-instance p q r s t = sym (held p q r s ∙ ap (λ (u : Bool). tests true true true true u line) t)
+
+  pub good : a ≡ true → b ≡ true → c ≡ true → d ≡ true → e ≡ true → Reply.answered line ≡ tests a b c d e line
+  good p q r s t = sym (held p q r s ∙ ap (λ (u : Bool). tests true true true true u line) t)
+
+-- what the line comes to by the rule and the lines that were found
+pub same-reply :
+    (file starts : List ℕ) (n : ℕ) (line : SixFields) (rule : Rule) (first second : Cited) →
+    rule ≡ ruleIn file line → first ≡ firstIn file starts n line → second ≡ secondIn file starts n line →
+    replyOf file n line rule first second ≡ lineReply file starts n line
+unfolding lineReply
+same-reply file starts n line rule first second named one two =
+    ap (λ (r : Rule). replyOf file n line r first second) named ∙ ap₂ (λ (x y : Cited). replyOf file n line (ruleIn file line) x y) one two
+
+-- ---- two premises
+
+pub two-fit : (count : ℕ) (first second : Cited) (r : Bool) → (count ≡ 0 → ⊥) → (count ≡ 1 → ⊥) → r ≡ (isLine first && isLine second) → r ≡ citedFit count first second
+two-fit zero first second r n m e = absurd (n refl)
+two-fit (suc zero) first second r n m e = absurd (m refl)
+two-fit (suc (suc count)) first second r n m e = e
+
+-- ---- a term
+
+-- the items are that many whole terms and no more
+abbrev wholes : ℕ → List Item → Bool
+wholes zero [] = true
+wholes zero (i ∷ is) = false
+wholes (suc k) [] = false
+wholes (suc k) (Item.loose b ∷ is) = false
+wholes (suc k) (Item.whole t ∷ is) = wholes k is
+
+one-taken : (k b : ℕ) (node : Term → Term) (is : List Item) → wholes (suc k) (one b node is) ≡ wholes (suc k) is
+one-taken k b node [] = refl
+one-taken k b node (Item.loose c ∷ is) = refl
+one-taken k b node (Item.whole t ∷ is) = refl
+
+two-taken : (k b : ℕ) (node : Term → Term → Term) (is : List Item) → wholes (suc k) (two b node is) ≡ wholes (suc (suc k)) is
+two-taken k b node [] = refl
+two-taken k b node (Item.loose c ∷ is) = refl
+two-taken k b node (Item.whole t ∷ []) = refl
+two-taken k b node (Item.whole t ∷ Item.loose c ∷ is) = refl
+two-taken k b node (Item.whole t ∷ Item.whole u ∷ is) = refl
+
+-- a letter in front of items leaves some
+two-some : (b : ℕ) (node : Term → Term → Term) (is : List Item) → wholes 0 (two b node is) ≡ false
+two-some b node [] = refl
+two-some b node (Item.loose c ∷ is) = refl
+two-some b node (Item.whole t ∷ []) = refl
+two-some b node (Item.whole t ∷ Item.loose c ∷ is) = refl
+two-some b node (Item.whole t ∷ Item.whole u ∷ is) = refl
+
+one-some : (b : ℕ) (node : Term → Term) (is : List Item) → wholes 0 (one b node is) ≡ false
+one-some b node [] = refl
+one-some b node (Item.loose c ∷ is) = refl
+one-some b node (Item.whole t ∷ is) = refl
+
+some-item : (b : ℕ) (o : Option Letter) (is : List Item) → wholes 0 (push b o is) ≡ false
+some-item b none is = refl
+some-item b (some Letter.J) is = refl
+some-item b (some Letter.R) is = one-some b Term.R is
+some-item b (some Letter.H) is = two-some b Term.H is
+some-item b (some Letter.A) is = two-some b Term.A is
+some-item b (some Letter.I) is = refl
+some-item b (some Letter.B) is = two-some b Term.B is
+some-item b (some Letter.stop) is = two-some b Term.app is
+
+-- reading answers a size exactly where the items are the terms owed
+reading-items : (k place : ℕ) (bytes : List ℕ) → isAnswered (readingFrom k place bytes) ≡ wholes k (items bytes)
+reading-items zero place [] = refl
+reading-items zero place (b ∷ bytes) = sym (some-item b (letterOf b) (items bytes))
+reading-items (suc k) place [] = refl
+reading-items (suc k) place (b ∷ bytes) = go (letterOf b) (λ n. reading-items n (suc place) bytes)
+  where
+    go :
+        (o : Option Letter) → ((n : ℕ) → isAnswered (readingFrom n (suc place) bytes) ≡ wholes n (items bytes)) →
+        isAnswered (atLetter o place (λ l. readingFrom (owed l k) (suc place) bytes)) ≡ wholes (suc k) (push b o (items bytes))
+    go none later = refl
+    go (some Letter.J) later = later k
+    go (some Letter.R) later = later (suc k) ∙ sym (one-taken k b Term.R (items bytes))
+    go (some Letter.H) later = later (suc (suc k)) ∙ sym (two-taken k b Term.H (items bytes))
+    go (some Letter.A) later = later (suc (suc k)) ∙ sym (two-taken k b Term.A (items bytes))
+    go (some Letter.I) later = later k
+    go (some Letter.B) later = later (suc (suc k)) ∙ sym (two-taken k b Term.B (items bytes))
+    go (some Letter.stop) later = later (suc (suc k)) ∙ sym (two-taken k b Term.app (items bytes))
+
+-- reading answers a size exactly where the bytes are a term's text
+pub reading-term : (bytes : List ℕ) → isAnswered (readingOf bytes) ≡ isSome (termOf bytes)
+unfolding readingOf termOf
+reading-term bytes = reading-items 1 0 bytes ∙ one-item (items bytes)
+  where
+    one-item : (is : List Item) → wholes 1 is ≡ isSome (single is)
+    one-item [] = refl
+    one-item (Item.loose b ∷ is) = refl
+    one-item (Item.whole t ∷ []) = refl
+    one-item (Item.whole t ∷ i ∷ is) = refl
+
+-- ---- an instance, with the lines that are named
+
+pub instance-named :
+    (file : List ℕ) (rule : Rule) (own i k : Judged) (first second : Cited) (m n : ℕ) (r : Bool) →
+    m ≡ startOr (length file) first → i ≡ judgedAt file m → n ≡ startOr (length file) second → k ≡ judgedAt file n →
+    r ≡ instanceText rule (textsAt own file) (textsAt i file) (textsAt k file) → r ≡ instanceAt file rule own first second
+instance-named file rule own i k first second m n r p q s t e =
+    e ∙
+    ap₂ (λ (x y : Judged). instanceText rule (textsAt own file) (textsAt x file) (textsAt y file)) (q ∙ ap (judgedAt file) p) (t ∙ ap (judgedAt file) s)

@@ -1,0 +1,96 @@
+// Checking derivation files.
+mod fields;
+mod line;
+mod premises;
+mod rules;
+mod texts;
+
+ghost use mathlib.Core.Path.{_≡_};
+ghost use Prim.Native.Nat.{_≤_};
+ghost use mathlib.Core.List.{[]};
+ghost use lib.ListN.{length};
+ghost use Rattle.slices.specs.Split.{lines, lastByte};
+ghost use Rattle.checking.specs.Checking.{checkLines, checkingOf};
+ghost use Rattle.checking.specs.Answer.{answerOf};
+use fields::six_at;
+use line::check_line;
+use line::is_accepted;
+
+// What checking answers; specs/Answer.antt gives the number and the value of each case.
+pub enum Checking {
+    // The file is over 65,536 bytes.
+    FileTooLong,
+    // The file is empty.
+    FileEmpty,
+    // The last byte is not 10.
+    NoLineEnd,
+    // The file has over 1,024 lines.
+    TooManyLines,
+    // That line has not six fields.
+    NotSixFields(usize),
+    // The context, term or type field of that line is not well formed.
+    Malformed(usize),
+    // That line names no rule.
+    UnknownRule(usize),
+    // A premise field of that line is malformed, names no earlier line, or is not what its rule has there.
+    BadPremise(usize),
+    // That line is not an instance of its rule.
+    NoInstance(usize),
+    // Every line follows; the number of lines.
+    Accepted(usize),
+}
+
+// Checks a derivation file of any bytes.
+pub fn check_derivation(file: &[u8]) -> Checking
+    ensures { λ r. ⌜ answerOf r ≡ checkingOf (now (file .entry)) ⌝ }
+{
+    if 65536 < file.len() {
+        return Checking::FileTooLong;
+    }
+    if file.len() == 0 {
+        return Checking::FileEmpty;
+    }
+    if slices::byte_at(file, file.len() - 1) != 10 {
+        return Checking::NoLineEnd;
+    }
+    if 1024 < line_count(file) {
+        return Checking::TooManyLines;
+    }
+    check_lines(file)
+}
+
+// The number of lines.
+fn line_count(file: &[u8]) -> usize
+    ensures { λ r. ⌜ r ≡ length (lines (now (file .entry))) ⌝ }
+{
+    let mut count: usize = 0;
+    let mut at = 0;
+    while at < file.len() {
+        if file[at] == 10 {
+            count += 1;
+        }
+        at += 1;
+    }
+    count
+}
+
+// Line by line: the first bad line, or accepted with their number. Of the lines passed it keeps where they begin.
+fn check_lines(file: &[u8]) -> Checking
+    requires { ⌜ (lastByte (now file) ≡ 10) × (length (lines (now file)) ≤ 1024) ⌝ }
+    ensures { λ r. ⌜ answerOf r ≡ checkLines 0 [] (lines (now (file .entry))) ⌝ }
+{
+    let mut starts = [0usize; 1024];
+    let mut n: usize = 0;
+    let mut at: usize = 0;
+    while at < file.len() {
+        let line = six_at(file, at);
+        let found = check_line(file, &starts, n, line);
+        if !is_accepted(found) {
+            return found;
+        }
+        starts[n] = at;
+        n += 1;
+        at = line.second.to + 1;
+    }
+    Checking::Accepted(n)
+}

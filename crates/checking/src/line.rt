@@ -1,0 +1,100 @@
+// One line of a derivation file.
+ghost use mathlib.Core.Path.{_≡_};
+ghost use Prim.Native.Nat.{_<_};
+ghost use Rattle.calculus.specs.Parse.{termOf};
+ghost use Rattle.types.specs.Tests.{isSome};
+ghost use Rattle.checking.specs.Answer.{answerOf};
+ghost use Rattle.checking.specs.Fields.{textsAt};
+ghost use Rattle.checking.specs.TextChecking.{wellFormed, instanceAt, isAnswered, lineReply};
+use crate::Checking;
+use crate::fields::Judged;
+use crate::fields::SixFields;
+use crate::fields::has_six;
+use crate::fields::judged_at;
+use crate::premises::Cited;
+use crate::premises::cite;
+use crate::premises::premises_fit;
+use crate::premises::start_or;
+use crate::rules::Rule;
+use crate::rules::asks;
+use crate::rules::builds;
+use crate::rules::is_known;
+use crate::rules::premise_count;
+use crate::rules::rule_of;
+use crate::texts::bytes_of;
+use reading::Reading;
+
+// A line of those fields, where `n` lines went before, which begin at `starts`: its refusal, or accepted with its number.
+pub fn check_line(file: &[u8], starts: &[usize], n: usize, line: SixFields) -> Checking
+    requires { ⌜ n < 1024 ⌝ }
+    ensures { λ r. ⌜ answerOf r ≡ lineReply (now (file .entry)) (now (starts .entry)) n line ⌝ }
+{
+    if !has_six(file, line) {
+        return Checking::NotSixFields(n + 1);
+    }
+    let own = line.own;
+    if !well_formed(file, own) {
+        return Checking::Malformed(n + 1);
+    }
+    let rule = rule_of(file, line.rule);
+    if !is_known(rule) {
+        return Checking::UnknownRule(n + 1);
+    }
+    let first = cite(file, line.first, starts, n);
+    let second = cite(file, line.second, starts, n);
+    if !premises_fit(premise_count(rule), first, second) {
+        return Checking::BadPremise(n + 1);
+    }
+    if !is_instance(file, rule, own, first, second) {
+        return Checking::NoInstance(n + 1);
+    }
+    Checking::Accepted(n + 1)
+}
+
+// Whether no line was refused.
+pub fn is_accepted(found: Checking) -> bool
+    ensures { λ r. ⌜ r ≡ isAnswered (answerOf found) ⌝ }
+{
+    match found {
+        Checking::FileTooLong => false,
+        Checking::FileEmpty => false,
+        Checking::NoLineEnd => false,
+        Checking::TooManyLines => false,
+        Checking::NotSixFields(_) => false,
+        Checking::Malformed(_) => false,
+        Checking::UnknownRule(_) => false,
+        Checking::BadPremise(_) => false,
+        Checking::NoInstance(_) => false,
+        Checking::Accepted(_) => true,
+    }
+}
+
+// Whether the context, the term and the type are well formed.
+fn well_formed(file: &[u8], own: Judged) -> bool
+    ensures { λ r. ⌜ r ≡ wellFormed (textsAt own (now (file .entry))) ⌝ }
+{
+    types::is_context(bytes_of(file, own.context))
+        && is_term(bytes_of(file, own.term))
+        && types::is_type(bytes_of(file, own.ty))
+}
+
+// Whether the bytes are the text of a term.
+fn is_term(s: &[u8]) -> bool
+    ensures { λ r. ⌜ r ≡ isSome (termOf (now (s .entry))) ⌝ }
+{
+    match reading::read(s) {
+        Reading::Whole(_) => true,
+        Reading::NoLetter(_) => false,
+        Reading::NotWhole(_) => false,
+        Reading::Beyond(_) => false,
+    }
+}
+
+// Whether the line is an instance of the rule, with the lines that are named for premises.
+fn is_instance(file: &[u8], rule: Rule, own: Judged, first: Cited, second: Cited) -> bool
+    ensures { λ r. ⌜ r ≡ instanceAt (now (file .entry)) rule own first second ⌝ }
+{
+    let i = judged_at(file, start_or(first, file.len()));
+    let k = judged_at(file, start_or(second, file.len()));
+    asks(file, rule, own, i, k) && builds(file, rule, own.term, i.term, k.term)
+}

@@ -1,0 +1,20 @@
+-- `types::parts_of` meets its contract: each answer is a law of `Scan`. Assumes nothing.
+use native.Mathlib.Omega.{arith}
+use Rattle.types.proofs.Scan.{parts-arrow, parts-low, parts-high, parts-atom}
+use Rattle.types.proofs.parts_of.Statement.{statement}
+use Rattle.types.proofs.parts_of.Tie as tie
+
+returns : tie.Need-returns
+returns c = parts-arrow (c .before .args .b) (c .if1 .taken)
+
+returns-2 : tie.Need-returns-2
+returns-2 c = parts-low (c .before .before .args .b) (c .before .if1 .left) (c .if2 .taken)
+
+returns-3 : tie.Need-returns-3
+returns-3 c = parts-high (c .before .before .before .args .b) (c .if3 .taken)
+
+returns-4 : tie.Need-returns-4
+returns-4 c = parts-atom (c .before .before .before .args .b) (c .before .if2 .left) (c .if3 .left)
+
+pub parts-of-spec : {M : Type 1} → statement M
+parts-of-spec = tie.close (tie.spec returns returns-2 returns-3 returns-4)

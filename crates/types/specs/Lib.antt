@@ -1,0 +1,4 @@
+pub mod Signs
+pub mod Parse
+pub mod Tests
+pub mod Scan
