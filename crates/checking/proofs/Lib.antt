@@ -14,3 +14,4 @@ pub mod TextChecking
 pub mod Walk
 pub mod GoodLines
 pub mod Files
+pub mod Listed

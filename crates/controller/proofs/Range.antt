@@ -18,7 +18,10 @@ use Rattle.stepping.specs.Stepping.{After, Stepped, steppingOf}
 use Rattle.stepping.proofs.Calls as step
 use Rattle.finishing.specs.Finishing as finishing
 use Rattle.finishing.proofs.Calls as finish
-use Rattle.controller.specs.Encoding.{Fields, fields, packed, InRange, stepFields, outcomeCode, finishFields, Coded, codedStep, codedFinish}
+use Rattle.checking.specs.Checking.{checkingOf}
+use Rattle.checking.proofs.Listed.{checkNumbers, checking-refused}
+use Rattle.checking.proofs.Files.{accepted-exactly}
+use Rattle.controller.specs.Encoding.{Fields, fields, packed, InRange, stepFields, outcomeCode, finishFields, checkFields, encode, Coded, codedStep, codedFinish}
 use Rattle.controller.proofs.Encoding.{packed-encode}
 
 -- every number of the list is below a bound
@@ -115,3 +118,15 @@ pub coded-finish :
 coded-finish area len work fuel reply r area′ work′ n e f =
     let range = finish-range (subst (finish.Call area len work fuel) (sym e) (finish.call area len work fuel)) in
     ap (λ (m : ℕ). Coded.coded m area′ work′) (f ∙ packed-encode (finishFields reply r) range) ∙ ap codedFinish e
+
+-- every answer of checking is in range
+check-range : (file : List ℕ) (r : Reply ℕ) → checkingOf file ≡ r → InRange (checkFields r)
+check-range file (Reply.refused n p) e =
+    let found = checking-refused file n p e in
+    record { code-fits = below checkNumbers (omega arith) (found .listed); value-fits = omega (arith, found .within); size-fits = omega arith }
+check-range file (Reply.answered n) e =
+    record { code-fits = omega arith; value-fits = omega (arith, accepted-exactly file n .0 e .few-lines); size-fits = omega arith }
+
+-- the number of an answer of checking is that of its definition
+pub coded-check : (file : List ℕ) (r : Reply ℕ) (n : ℕ) → r ≡ checkingOf file → n ≡ packed (checkFields r) → n ≡ encode (checkFields (checkingOf file))
+coded-check file r n e f = f ∙ packed-encode (checkFields r) (check-range file r (sym e)) ∙ ap (λ (x : Reply ℕ). encode (checkFields x)) e

@@ -1,4 +1,5 @@
 // The engine for the controller's firmware: each answer as one number.
+use checking::Checking;
 use finishing::Admission;
 use finishing::Outcome;
 use finishing::Run;
@@ -10,7 +11,9 @@ ghost use Rattle.stepping.specs.Stepping.{steppingOf};
 ghost use Rattle.stepping.specs.Answer.{answerOf as steppingAnswer};
 ghost use Rattle.finishing.specs.Finishing.{finishingOf};
 ghost use Rattle.finishing.specs.Answer.{replyOf, outcomeOf, ranOf};
-ghost use Rattle.controller.specs.Encoding.{fields, packed, refusalFields, stepFields, outcomeCode, finishFields, Coded, codedStep, codedFinish};
+ghost use Rattle.checking.specs.Checking.{checkingOf};
+ghost use Rattle.checking.specs.Answer.{answerOf as checkingAnswer};
+ghost use Rattle.controller.specs.Encoding.{fields, packed, refusalFields, stepFields, outcomeCode, finishFields, checkFields, encode, Coded, codedStep, codedFinish};
 
 // Code, value and size in one number, each cut to its bits.
 fn pack(code: u64, value: usize, size: usize) -> u64
@@ -72,6 +75,24 @@ fn finish_number(admission: Admission, run: Run) -> u64
     }
 }
 
+// The number of checking's answer.
+fn check_number(answer: Checking) -> u64
+    ensures { λ r. ⌜ r ≡ packed (checkFields (checkingAnswer answer)) ⌝ }
+{
+    match answer {
+        Checking::FileTooLong => pack(10, 0, 0),
+        Checking::FileEmpty => pack(11, 0, 0),
+        Checking::NoLineEnd => pack(12, 0, 0),
+        Checking::TooManyLines => pack(13, 0, 0),
+        Checking::NotSixFields(line) => pack(14, line, 0),
+        Checking::Malformed(line) => pack(15, line, 0),
+        Checking::UnknownRule(line) => pack(16, line, 0),
+        Checking::BadPremise(line) => pack(17, line, 0),
+        Checking::NoInstance(line) => pack(18, line, 0),
+        Checking::Accepted(lines) => pack(120, lines, 0),
+    }
+}
+
 // One step of the term in the first `term_size` bytes of the area.
 #[no_mangle]
 pub extern "C" fn controller_step(area: &mut [u8], term_size: usize, work: &mut [u8]) -> u64
@@ -94,4 +115,12 @@ pub extern "C" fn controller_finish(
     let admission = finishing.admission;
     let run = finishing.run;
     finish_number(admission, run)
+}
+
+// Whether each line of a derivation file follows.
+#[no_mangle]
+pub extern "C" fn controller_check(file: &[u8]) -> u64
+    ensures { λ r. ⌜ r ≡ encode (checkFields (checkingOf (now (file .entry)))) ⌝ }
+{
+    check_number(checking::check_derivation(file))
 }

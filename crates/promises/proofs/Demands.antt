@@ -24,7 +24,9 @@ use Rattle.finishing.specs.Finishing as finishing
 use Rattle.finishing.proofs.Calls as finish
 use Rattle.comparing.specs.Comparing as comparing
 use Rattle.comparing.proofs.Calls as compare
+use Rattle.reading.proofs.Numbers.{reading-refused}
 use Rattle.checking.specs.Line.{Line}
+use Rattle.checking.proofs.Listed.{checking-refused}
 use Rattle.checking.specs.Accepted.{claimOf}
 use Rattle.checking.proofs.Files.{accepted-exactly, complete, claim-unique, accepted-derivable, derivable-listed}
 use Rattle.promises.specs.Demands.{Refusals, SteppedTo, RanTo, Steps, Results, Files, Types}
@@ -91,6 +93,8 @@ refusals =
       of-comparing =
           λ first second work first′ second′ work′ len₁ len₂ fuel number place e.
           compare-refused (subst (compare.Call first len₁ second len₂ work fuel) e (compare.call first len₁ second len₂ work fuel));
+      of-reading = λ bytes number place e. let found = reading-refused bytes number place e in (found .listed, found .within);
+      of-checking = λ file number line e. let found = checking-refused file number line e in (found .listed, found .within);
     }
 
 -- Demand 2, first half

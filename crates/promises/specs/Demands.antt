@@ -13,6 +13,7 @@ use Rattle.calculus.specs.Types.{Context, Ty}
 use Rattle.calculus.specs.Typing.{Judgement}
 use Rattle.calculus.specs.Derivation.{Derivable}
 use Rattle.reading.specs.Reply.{Reply}
+use Rattle.reading.specs.Reading.{readingOf}
 use Rattle.stepping.specs.Areas.{holding, cleared}
 use Rattle.stepping.specs.Held.{Holds}
 use Rattle.stepping.specs.Stepping as stepping
@@ -37,6 +38,13 @@ pub record Refusals : Type 0 where
       (first second work first′ second′ work′ : List ℕ) (len₁ len₂ fuel number place : ℕ) →
       comparing.comparingOf first len₁ second len₂ work fuel ≡ comparing.After.after (Reply.refused number place) first′ second′ work′ →
       List·Memᴰ number (1 ∷ 2 ∷ 3 ∷ 4 ∷ 5 ∷ 6 ∷ 7 ∷ []) × (first′ ≡ first) × (second′ ≡ second) × (work′ ≡ work)
+  pub of-reading :
+      (bytes : List ℕ) (number place : ℕ) →
+      readingOf bytes ≡ Reply.refused number place → List·Memᴰ number (5 ∷ 6 ∷ 7 ∷ []) × (place ≤ length bytes)
+  pub of-checking :
+      (file : List ℕ) (number line : ℕ) →
+      checkingOf file ≡ Reply.refused number line →
+      List·Memᴰ number (10 ∷ 11 ∷ 12 ∷ 13 ∷ 14 ∷ 15 ∷ 16 ∷ 17 ∷ 18 ∷ []) × (line ≤ 1024)
 
 -- the step of stepping: the one that the rules and the order name, and what the areas hold after it
 pub record SteppedTo (area : List ℕ) (len : ℕ) (work : List ℕ) (rule s : ℕ) (area′ work′ : List ℕ) : Type 0 where

@@ -1,0 +1,19 @@
+-- `controller::controller_check` meets its contract: checking's promise, and the number of its answer. Assumes nothing.
+use Rattle.checking.specs.Answer.{answerOf}
+use Rattle.controller.proofs.Range.{coded-check}
+use borrow.Author.Needs.{needs}
+use Rattle.controller.proofs.controller_check.Statement.{statement}
+use Rattle.controller.proofs.controller_check.Tie as tie
+
+check-derivation-requires : tie.Need-check-derivation-requires
+check-derivation-requires c κs = search needs
+
+check-number-requires : tie.Need-check-number-requires
+check-number-requires c κs = search needs
+
+returns : tie.Need-returns
+returns c = coded-check (c .before .before .before .args .file .now) (answerOf (c .before .check-derivation .result)) (c .check-number .result) (c .before .check-derivation .ensures) (c .check-number .ensures)
+
+pub controller-check-spec : {M : Type 1} → statement M
+controller-check-spec =
+    tie.close (tie.spec check-derivation-requires check-number-requires returns)
