@@ -16,46 +16,66 @@ use Rattle.checking.specs.declared.fields.Judged.{Judged}
 use Rattle.checking.specs.declared.fields.SixFields.{SixFields}
 use Rattle.checking.specs.declared.premises.Cited.{Cited}
 use Rattle.checking.specs.declared.rules.Rule.{Rule}
-use Rattle.checking.specs.Fields.{judgedAt, textsAt}
+use Rattle.checking.specs.Fields.{judgedAt, hasSix, textsAt}
 use Rattle.checking.specs.Cited.{isLine, citedFit, startOr}
-use Rattle.checking.specs.TextInstance.{instanceText}
-use Rattle.checking.specs.TextChecking.{instanceAt, isAnswered, unless, replyOf, ruleIn, firstIn, secondIn, lineReply}
+use Rattle.checking.specs.TextInstance.{instanceText, countOf}
+use Rattle.checking.specs.TextChecking.{wellFormed, isKnown, instanceAt, isAnswered, unless, replyOf, ruleIn, firstIn, secondIn, lineReply}
 
 -- ---- the tests of a line, in their order
 
 abbrev tests : (a b c d e : Bool) → ℕ → Reply ℕ
 tests a b c d e line = unless a 14 line (unless b 15 line (unless c 16 line (unless d 17 line (unless e 18 line (Reply.answered line)))))
 
-module _ (a b c d e : Bool) (line : ℕ) where
-  pub not-six : a ≡ false → Reply.refused 14 line ≡ tests a b c d e line
-  not-six p = sym (ap (λ (t : Bool). tests t b c d e line) p)
+-- where the first tests held, the reply is what the others say
+held : (a b c d e : Bool) (line : ℕ) → a ≡ true → b ≡ true → c ≡ true → d ≡ true → tests a b c d e line ≡ tests true true true true e line
+held a b c d e line p q r s = ap₂ (λ (t u : Bool). tests t u c d e line) p q ∙ ap₂ (λ (t u : Bool). tests true true t u e line) r s
 
-  pub malformed : a ≡ true → b ≡ false → Reply.refused 15 line ≡ tests a b c d e line
-  malformed p q = sym (ap₂ (λ (t u : Bool). tests t u c d e line) p q)
+module _
+    (file starts : List ℕ)
+    (n : ℕ)
+    (line : SixFields)
+    (rule : Rule)
+    (first second : Cited)
+    (named : rule ≡ ruleIn file line)
+    (one : first ≡ firstIn file starts n line)
+    (two : second ≡ secondIn file starts n line) where
+  -- what the line comes to by the rule and the lines that were found
+  same-reply : replyOf file n line rule first second ≡ lineReply file starts n line
+  unfolding lineReply
+  same-reply =
+      ap (λ (r : Rule). replyOf file n line r first second) named ∙ ap₂ (λ (x y : Cited). replyOf file n line (ruleIn file line) x y) one two
 
-  pub unknown : a ≡ true → b ≡ true → c ≡ false → Reply.refused 16 line ≡ tests a b c d e line
-  unknown p q r = sym (ap₂ (λ (t u : Bool). tests t u c d e line) p q ∙ ap (λ (t : Bool). tests true true t d e line) r)
+  abbrev six : Bool
+  six = hasSix file line
 
-  pub bad-premise : a ≡ true → b ≡ true → c ≡ true → d ≡ false → Reply.refused 17 line ≡ tests a b c d e line
-  bad-premise p q r s = sym (ap₂ (λ (t u : Bool). tests t u c d e line) p q ∙ ap₂ (λ (t u : Bool). tests true true t u e line) r s)
+  abbrev formed : Bool
+  formed = wellFormed (textsAt (line .own) file)
 
-  held : a ≡ true → b ≡ true → c ≡ true → d ≡ true → tests a b c d e line ≡ tests true true true true e line
-  held p q r s = ap₂ (λ (t u : Bool). tests t u c d e line) p q ∙ ap₂ (λ (t u : Bool). tests true true t u e line) r s
+  abbrev fits : Bool
+  fits = citedFit (countOf rule) first second
 
-  pub no-instance : a ≡ true → b ≡ true → c ≡ true → d ≡ true → e ≡ false → Reply.refused 18 line ≡ tests a b c d e line
-  no-instance p q r s t = sym (held p q r s ∙ ap (λ (u : Bool). tests true true true true u line) t)
+  abbrev inst : Bool
+  inst = instanceAt file rule (line .own) first second
 
-  pub good : a ≡ true → b ≡ true → c ≡ true → d ≡ true → e ≡ true → Reply.answered line ≡ tests a b c d e line
-  good p q r s t = sym (held p q r s ∙ ap (λ (u : Bool). tests true true true true u line) t)
+  pub not-six : six ≡ false → Reply.refused 14 (n + 1) ≡ lineReply file starts n line
+  not-six p = sym (ap (λ (t : Bool). tests t formed (isKnown rule) fits inst (n + 1)) p) ∙ same-reply
 
--- what the line comes to by the rule and the lines that were found
-pub same-reply :
-    (file starts : List ℕ) (n : ℕ) (line : SixFields) (rule : Rule) (first second : Cited) →
-    rule ≡ ruleIn file line → first ≡ firstIn file starts n line → second ≡ secondIn file starts n line →
-    replyOf file n line rule first second ≡ lineReply file starts n line
-unfolding lineReply
-same-reply file starts n line rule first second named one two =
-    ap (λ (r : Rule). replyOf file n line r first second) named ∙ ap₂ (λ (x y : Cited). replyOf file n line (ruleIn file line) x y) one two
+  pub malformed : six ≡ true → formed ≡ false → Reply.refused 15 (n + 1) ≡ lineReply file starts n line
+  malformed p q = sym (ap₂ (λ (t u : Bool). tests t u (isKnown rule) fits inst (n + 1)) p q) ∙ same-reply
+
+  pub unknown : six ≡ true → formed ≡ true → isKnown rule ≡ false → Reply.refused 16 (n + 1) ≡ lineReply file starts n line
+  unknown p q r =
+      sym (ap₂ (λ (t u : Bool). tests t u (isKnown rule) fits inst (n + 1)) p q ∙ ap (λ (t : Bool). tests true true t fits inst (n + 1)) r) ∙ same-reply
+
+  pub bad-premise : six ≡ true → formed ≡ true → isKnown rule ≡ true → fits ≡ false → Reply.refused 17 (n + 1) ≡ lineReply file starts n line
+  bad-premise p q r s =
+      sym (ap₂ (λ (t u : Bool). tests t u (isKnown rule) fits inst (n + 1)) p q ∙ ap₂ (λ (t u : Bool). tests true true t u inst (n + 1)) r s) ∙ same-reply
+
+  pub no-instance : six ≡ true → formed ≡ true → isKnown rule ≡ true → fits ≡ true → inst ≡ false → Reply.refused 18 (n + 1) ≡ lineReply file starts n line
+  no-instance p q r s t = sym (held six formed (isKnown rule) fits inst (n + 1) p q r s ∙ ap (λ (u : Bool). tests true true true true u (n + 1)) t) ∙ same-reply
+
+  pub good : six ≡ true → formed ≡ true → isKnown rule ≡ true → fits ≡ true → inst ≡ true → Reply.answered (n + 1) ≡ lineReply file starts n line
+  good p q r s t = sym (held six formed (isKnown rule) fits inst (n + 1) p q r s ∙ ap (λ (u : Bool). tests true true true true u (n + 1)) t) ∙ same-reply
 
 -- ---- two premises
 

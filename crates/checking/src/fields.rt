@@ -4,14 +4,14 @@ ghost use Rattle.checking.specs.Fields.{stopAt, behindIn, fieldAt, judge
 use crate::texts::Span;
 
 // The context, the term and the type of a line.
-pub struct Judged {
+pub(crate) struct Judged {
     pub context: Span,
     pub term: Span,
     pub ty: Span,
 }
 
 // The six fields of a line.
-pub struct SixFields {
+pub(crate) struct SixFields {
     pub own: Judged,
     pub rule: Span,
     pub first: Span,
@@ -19,7 +19,7 @@ pub struct SixFields {
 }
 
 // The six fields from an index on; a tab ends each but the last, which a line feed ends, where `has_six` says so.
-pub fn six_at(file: &[u8], from: usize) -> SixFields
+pub(crate) fn six_at(file: &[u8], from: usize) -> SixFields
     ensures { λ r. ⌜ r ≡ sixAt (now (file .entry)) from ⌝ }
 {
     let own = judged_at(file, from);
@@ -35,7 +35,7 @@ pub fn six_at(file: &[u8], from: usize) -> SixFields
 }
 
 // The first three fields from an index on.
-pub fn judged_at(file: &[u8], from: usize) -> Judged
+pub(crate) fn judged_at(file: &[u8], from: usize) -> Judged
     ensures { λ r. ⌜ r ≡ judgedAt (now (file .entry)) from ⌝ }
 {
     let context = field_at(file, from);
@@ -45,7 +45,7 @@ pub fn judged_at(file: &[u8], from: usize) -> Judged
 }
 
 // Whether a tab ends each field but the last.
-pub fn has_six(file: &[u8], line: SixFields) -> bool
+pub(crate) fn has_six(file: &[u8], line: SixFields) -> bool
     ensures { λ r. ⌜ r ≡ hasSix (now (file .entry)) line ⌝ }
 {
     if !is_tab(file, line.own.context.to) {

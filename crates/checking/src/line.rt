@@ -25,7 +25,7 @@ use crate::texts::bytes_of;
 use reading::Reading;
 
 // A line of those fields, where `n` lines went before, which begin at `starts`: its refusal, or accepted with its number.
-pub fn check_line(file: &[u8], starts: &[usize], n: usize, line: SixFields) -> Checking
+pub(crate) fn check_line(file: &[u8], starts: &[usize], n: usize, line: SixFields) -> Checking
     requires { ⌜ n < 1024 ⌝ }
     ensures { λ r. ⌜ answerOf r ≡ lineReply (now (file .entry)) (now (starts .entry)) n line ⌝ }
 {
@@ -52,7 +52,7 @@ pub fn check_line(file: &[u8], starts: &[usize], n: usize, line: SixFields) -> C
 }
 
 // Whether no line was refused.
-pub fn is_accepted(found: Checking) -> bool
+pub(crate) fn is_accepted(found: Checking) -> bool
     ensures { λ r. ⌜ r ≡ isAnswered (answerOf found) ⌝ }
 {
     match found {

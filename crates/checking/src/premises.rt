@@ -9,7 +9,7 @@ ghost use Rattle.checking.specs.Cited.{digitOf, upTo, citedOf, isDashed,
 use crate::texts::Span;
 
 // What a premise field names.
-pub enum Cited {
+pub(crate) enum Cited {
     // `-`.
     Dash,
     // The earlier line that begins at that index.
@@ -19,7 +19,7 @@ pub enum Cited {
 }
 
 // What a premise field names, where `n` lines went before, which begin at `starts`.
-pub fn cite(file: &[u8], field: Span, starts: &[usize], n: usize) -> Cited
+pub(crate) fn cite(file: &[u8], field: Span, starts: &[usize], n: usize) -> Cited
     requires { ⌜ n ≤ 1024 ⌝ }
     ensures { λ r. ⌜ r ≡ citedOf (now (starts .entry)) n (premiseOf (textAt field (now (file .entry)))) ⌝ }
 {
@@ -38,7 +38,7 @@ pub fn cite(file: &[u8], field: Span, starts: &[usize], n: usize) -> Cited
 }
 
 // Whether each field names what a rule with that many premises has there.
-pub fn premises_fit(count: usize, first: Cited, second: Cited) -> bool
+pub(crate) fn premises_fit(count: usize, first: Cited, second: Cited) -> bool
     ensures { λ r. ⌜ r ≡ citedFit count first second ⌝ }
 {
     if count == 0 {
@@ -71,7 +71,7 @@ fn is_line(cited: Cited) -> bool
 }
 
 // Where the line begins that is named, or the other place.
-pub fn start_or(cited: Cited, other: usize) -> usize
+pub(crate) fn start_or(cited: Cited, other: usize) -> usize
     ensures { λ r. ⌜ r ≡ startOr other cited ⌝ }
 {
     match cited {

@@ -13,7 +13,7 @@ use crate::texts::same_text;
 use crate::texts::simple_behind;
 
 // The rules, by the letters that name them.
-pub enum Rule {
+pub(crate) enum Rule {
     J,
     R,
     H,
@@ -26,7 +26,7 @@ pub enum Rule {
 }
 
 // The rule that a field names.
-pub fn rule_of(file: &[u8], field: Span) -> Rule
+pub(crate) fn rule_of(file: &[u8], field: Span) -> Rule
     ensures { λ r. ⌜ r ≡ ruleOf (nameOf (textAt field (now (file .entry)))) ⌝ }
 {
     let bytes = bytes_of(file, field);
@@ -68,7 +68,7 @@ fn rule_named(b: u8) -> Rule
 }
 
 // Whether the letter named a rule.
-pub fn is_known(rule: Rule) -> bool
+pub(crate) fn is_known(rule: Rule) -> bool
     ensures { λ r. ⌜ r ≡ isKnown rule ⌝ }
 {
     match rule {
@@ -85,7 +85,7 @@ pub fn is_known(rule: Rule) -> bool
 }
 
 // How many premises a rule has.
-pub fn premise_count(rule: Rule) -> usize
+pub(crate) fn premise_count(rule: Rule) -> usize
     ensures { λ r. ⌜ r ≡ countOf rule ⌝ }
 {
     match rule {
@@ -102,7 +102,7 @@ pub fn premise_count(rule: Rule) -> usize
 }
 
 // What the rule asks of contexts and types; a premise that the rule has not is passed over.
-pub fn asks(file: &[u8], rule: Rule, own: Judged, first: Judged, second: Judged) -> bool
+pub(crate) fn asks(file: &[u8], rule: Rule, own: Judged, first: Judged, second: Judged) -> bool
     ensures { λ r. ⌜ r ≡ asksText rule (textsAt own (now (file .entry))) (textsAt first (now (file .entry))) (textsAt second (now (file .entry))) ⌝ }
 {
     match rule {
@@ -119,7 +119,7 @@ pub fn asks(file: &[u8], rule: Rule, own: Judged, first: Judged, second: Judged)
 }
 
 // Whether the term is the one that the rule builds of the premises' terms.
-pub fn builds(file: &[u8], rule: Rule, term: Span, first: Span, second: Span) -> bool
+pub(crate) fn builds(file: &[u8], rule: Rule, term: Span, first: Span, second: Span) -> bool
     ensures { λ r. ⌜ r ≡ buildsText rule (textAt term (now (file .entry))) (textAt first (now (file .entry))) (textAt second (now (file .entry))) ⌝ }
 {
     let nothing = Span { from: 0, to: 0 };

@@ -5,27 +5,27 @@ ghost use Rattle.slices.specs.Same.{same};
 ghost use Rattle.checking.specs.Texts.{textAt, simpleBehind};
 
 // A text of the file: from index `from` up to, not including, `to`.
-pub struct Span {
+pub(crate) struct Span {
     pub from: usize,
     pub to: usize,
 }
 
 // The bytes of a text.
-pub fn bytes_of(file: &[u8], a: Span) -> &[u8]
+pub(crate) fn bytes_of(file: &[u8], a: Span) -> &[u8]
     ensures { λ r. ⌜ now r ≡ textAt a (now (file .entry)) ⌝ }
 {
     slices::cut(file, a.from, a.to)
 }
 
 // Whether two texts are the same.
-pub fn same_text(file: &[u8], a: Span, b: Span) -> bool
+pub(crate) fn same_text(file: &[u8], a: Span, b: Span) -> bool
     ensures { λ r. ⌜ r ≡ same (textAt a (now (file .entry))) (textAt b (now (file .entry))) ⌝ }
 {
     slices::same_part(file, a.from, a.to, file, b.from, b.to)
 }
 
 // Whether a text is a byte and then two texts.
-pub fn is_join(file: &[u8], w: Span, head: u8, a: Span, b: Span) -> bool
+pub(crate) fn is_join(file: &[u8], w: Span, head: u8, a: Span, b: Span) -> bool
     ensures { λ r. ⌜ r ≡ same (textAt w (now (file .entry))) (head ∷ (textAt a (now (file .entry)) ++ textAt b (now (file .entry)))) ⌝ }
 {
     joins(
@@ -54,7 +54,7 @@ fn joins(w: &[u8], head: u8, a: &[u8], b: &[u8]) -> bool
 }
 
 // The simple type that stands behind the first byte of a text.
-pub fn simple_behind(file: &[u8], w: Span) -> Span
+pub(crate) fn simple_behind(file: &[u8], w: Span) -> Span
     ensures { λ r. ⌜ textAt r (now (file .entry)) ≡ simpleBehind (textAt w (now (file .entry))) ⌝ }
 {
     let bytes = bytes_of(file, w);

@@ -8,13 +8,13 @@ returns : tie.Need-returns
 returns c = parts-arrow (c .before .args .b) (c .if1 .taken)
 
 returns-2 : tie.Need-returns-2
-returns-2 c = parts-low (c .before .before .args .b) (c .before .if1 .left) (c .if2 .taken)
+returns-2 c = parts-low (c .before .before .args .b) (c .before .if1 .left) (omega arith)
 
 returns-3 : tie.Need-returns-3
-returns-3 c = parts-high (c .before .before .before .args .b) (c .if3 .taken)
+returns-3 c = parts-high (c .before .before .before .args .b) (omega arith)
 
 returns-4 : tie.Need-returns-4
-returns-4 c = parts-atom (c .before .before .before .args .b) (c .before .if2 .left) (c .if3 .left)
+returns-4 c = parts-atom (c .before .before .before .args .b) (omega arith) (omega arith)
 
 pub parts-of-spec : {M : Type 1} → statement M
 parts-of-spec = tie.close (tie.spec returns returns-2 returns-3 returns-4)

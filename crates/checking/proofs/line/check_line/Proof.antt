@@ -1,12 +1,10 @@
 -- `line::check_line` meets its contract: its tests are those of the definition, in their order. Assumes nothing.
-use Prim.Native.Nat.{ℕ, _+_}
+use Prim.Native.Nat.{ℕ}
 use mathlib.Core.Path.{refl, sym, _∙_, ap}
 use borrow.Author.Tests.{not-true, not-false}
-use Rattle.checking.specs.Fields.{hasSix, textsAt}
 use Rattle.checking.specs.Cited.{citedFit}
-use Rattle.checking.specs.TextInstance.{countOf}
-use Rattle.checking.specs.TextChecking.{wellFormed, isKnown, instanceAt, ruleIn, firstIn, secondIn}
-use Rattle.checking.proofs.Replied.{not-six, malformed, unknown, bad-premise, no-instance, good, same-reply}
+use Rattle.checking.specs.TextChecking.{ruleIn, firstIn, secondIn}
+use Rattle.checking.proofs.Replied.{not-six, malformed, unknown, bad-premise, no-instance, good}
 use borrow.Author.Needs.{needs}
 use Rattle.checking.proofs.line.check_line.Statement.{statement}
 use Rattle.checking.proofs.line.check_line.Tie as tie
@@ -18,7 +16,13 @@ add-t11 : tie.Need-add-t11
 add-t11 c = search needs
 
 returns : tie.Need-returns
-returns c = let file = c .before .before .before .before .args .file .now in let starts = c .before .before .before .before .args .starts .now in let line = c .before .before .before .before .args .line in not-six (hasSix file line) (wellFormed (textsAt (line .own) file)) (isKnown (ruleIn file line)) (citedFit (countOf (ruleIn file line)) (firstIn file starts (c .before .before .before .before .args .n) line) (secondIn file starts (c .before .before .before .before .args .n) line)) (instanceAt file (ruleIn file line) (line .own) (firstIn file starts (c .before .before .before .before .args .n) line) (secondIn file starts (c .before .before .before .before .args .n) line)) (c .before .before .before .before .args .n + 1) (sym (c .before .has-six .ensures) ∙ not-true (c .before .has-six .result) (c .if1 .taken)) ∙ same-reply file starts (c .before .before .before .before .args .n) line (ruleIn file line) (firstIn file starts (c .before .before .before .before .args .n) line) (secondIn file starts (c .before .before .before .before .args .n) line) refl refl refl
+returns c =
+    let file = c .before .before .before .before .args .file .now in
+    let starts = c .before .before .before .before .args .starts .now in
+    let n = c .before .before .before .before .args .n in
+    let line = c .before .before .before .before .args .line in
+    not-six file starts n line (ruleIn file line) (firstIn file starts n line) (secondIn file starts n line) refl refl refl
+    (sym (c .before .has-six .ensures) ∙ not-true (c .before .has-six .result) (c .if1 .taken))
 
 well-formed-requires : tie.Need-well-formed-requires
 well-formed-requires c κs = search needs
@@ -27,7 +31,14 @@ add-t12 : tie.Need-add-t12
 add-t12 c = search needs
 
 returns-2 : tie.Need-returns-2
-returns-2 c = let file = c .before .before .before .before .before .before .before .args .file .now in let starts = c .before .before .before .before .before .before .before .args .starts .now in let line = c .before .before .before .before .before .before .before .args .line in malformed (hasSix file line) (wellFormed (textsAt (line .own) file)) (isKnown (ruleIn file line)) (citedFit (countOf (ruleIn file line)) (firstIn file starts (c .before .before .before .before .before .before .before .args .n) line) (secondIn file starts (c .before .before .before .before .before .before .before .args .n) line)) (instanceAt file (ruleIn file line) (line .own) (firstIn file starts (c .before .before .before .before .before .before .before .args .n) line) (secondIn file starts (c .before .before .before .before .before .before .before .args .n) line)) (c .before .before .before .before .before .before .before .args .n + 1) (sym (c .before .before .before .before .has-six .ensures) ∙ not-false (c .before .before .before .before .has-six .result) (c .before .before .before .if1 .left)) (sym (c .before .well-formed .ensures) ∙ not-true (c .before .well-formed .result) (c .if2 .taken)) ∙ same-reply file starts (c .before .before .before .before .before .before .before .args .n) line (ruleIn file line) (firstIn file starts (c .before .before .before .before .before .before .before .args .n) line) (secondIn file starts (c .before .before .before .before .before .before .before .args .n) line) refl refl refl
+returns-2 c =
+    let file = c .before .before .before .before .before .before .before .args .file .now in
+    let starts = c .before .before .before .before .before .before .before .args .starts .now in
+    let n = c .before .before .before .before .before .before .before .args .n in
+    let line = c .before .before .before .before .before .before .before .args .line in
+    malformed file starts n line (ruleIn file line) (firstIn file starts n line) (secondIn file starts n line) refl refl refl
+    (sym (c .before .before .before .before .has-six .ensures) ∙ not-false (c .before .before .before .before .has-six .result) (c .before .before .before .if1 .left))
+    (sym (c .before .well-formed .ensures) ∙ not-true (c .before .well-formed .result) (c .if2 .taken))
 
 rule-of-requires : tie.Need-rule-of-requires
 rule-of-requires c κs = search needs
@@ -39,7 +50,15 @@ add-t13 : tie.Need-add-t13
 add-t13 c = search needs
 
 returns-3 : tie.Need-returns-3
-returns-3 c = let file = c .before .before .before .before .before .before .before .before .before .before .args .file .now in let starts = c .before .before .before .before .before .before .before .before .before .before .args .starts .now in let line = c .before .before .before .before .before .before .before .before .before .before .args .line in unknown (hasSix file line) (wellFormed (textsAt (line .own) file)) (isKnown (c .before .before .rule-of .result)) (citedFit (countOf (c .before .before .rule-of .result)) (firstIn file starts (c .before .before .before .before .before .before .before .before .before .before .args .n) line) (secondIn file starts (c .before .before .before .before .before .before .before .before .before .before .args .n) line)) (instanceAt file (c .before .before .rule-of .result) (line .own) (firstIn file starts (c .before .before .before .before .before .before .before .before .before .before .args .n) line) (secondIn file starts (c .before .before .before .before .before .before .before .before .before .before .args .n) line)) (c .before .before .before .before .before .before .before .before .before .before .args .n + 1) (sym (c .before .before .before .before .before .before .before .has-six .ensures) ∙ not-false (c .before .before .before .before .before .before .before .has-six .result) (c .before .before .before .before .before .before .if1 .left)) (sym (c .before .before .before .before .well-formed .ensures) ∙ not-false (c .before .before .before .before .well-formed .result) (c .before .before .before .if2 .left)) (sym (c .before .is-known .ensures) ∙ not-true (c .before .is-known .result) (c .if3 .taken)) ∙ same-reply file starts (c .before .before .before .before .before .before .before .before .before .before .args .n) line (c .before .before .rule-of .result) (firstIn file starts (c .before .before .before .before .before .before .before .before .before .before .args .n) line) (secondIn file starts (c .before .before .before .before .before .before .before .before .before .before .args .n) line) (c .before .before .rule-of .ensures) refl refl
+returns-3 c =
+    let file = c .before .before .before .before .before .before .before .before .before .before .args .file .now in
+    let starts = c .before .before .before .before .before .before .before .before .before .before .args .starts .now in
+    let n = c .before .before .before .before .before .before .before .before .before .before .args .n in
+    let line = c .before .before .before .before .before .before .before .before .before .before .args .line in
+    unknown file starts n line (c .before .before .rule-of .result) (firstIn file starts n line) (secondIn file starts n line) (c .before .before .rule-of .ensures) refl refl
+    (sym (c .before .before .before .before .before .before .before .has-six .ensures) ∙ not-false (c .before .before .before .before .before .before .before .has-six .result) (c .before .before .before .before .before .before .if1 .left))
+    (sym (c .before .before .before .before .well-formed .ensures) ∙ not-false (c .before .before .before .before .well-formed .result) (c .before .before .before .if2 .left))
+    (sym (c .before .is-known .ensures) ∙ not-true (c .before .is-known .result) (c .if3 .taken))
 
 cite-requires : tie.Need-cite-requires
 cite-requires c κs = search needs
@@ -57,7 +76,16 @@ add-t15 : tie.Need-add-t15
 add-t15 c = search needs
 
 returns-4 : tie.Need-returns-4
-returns-4 c = let file = c .before .before .before .before .before .before .before .before .before .before .before .before .before .before .before .args .file .now in let starts = c .before .before .before .before .before .before .before .before .before .before .before .before .before .before .before .args .starts .now in let line = c .before .before .before .before .before .before .before .before .before .before .before .before .before .before .before .args .line in bad-premise (hasSix file line) (wellFormed (textsAt (line .own) file)) (isKnown (c .before .before .before .before .before .before .before .rule-of .result)) (citedFit (countOf (c .before .before .before .before .before .before .before .rule-of .result)) (c .before .before .before .before .cite .result) (c .before .before .before .cite2 .result)) (instanceAt file (c .before .before .before .before .before .before .before .rule-of .result) (line .own) (c .before .before .before .before .cite .result) (c .before .before .before .cite2 .result)) (c .before .before .before .before .before .before .before .before .before .before .before .before .before .before .before .args .n + 1) (sym (c .before .before .before .before .before .before .before .before .before .before .before .before .has-six .ensures) ∙ not-false (c .before .before .before .before .before .before .before .before .before .before .before .before .has-six .result) (c .before .before .before .before .before .before .before .before .before .before .before .if1 .left)) (sym (c .before .before .before .before .before .before .before .before .before .well-formed .ensures) ∙ not-false (c .before .before .before .before .before .before .before .before .before .well-formed .result) (c .before .before .before .before .before .before .before .before .if2 .left)) (sym (c .before .before .before .before .before .before .is-known .ensures) ∙ not-false (c .before .before .before .before .before .before .is-known .result) (c .before .before .before .before .before .if3 .left)) (sym (c .before .premises-fit .ensures ∙ ap (λ (m : ℕ). citedFit m (c .before .before .before .before .cite .result) (c .before .before .before .cite2 .result)) (c .before .before .premise-count .ensures)) ∙ not-true (c .before .premises-fit .result) (c .if4 .taken)) ∙ same-reply file starts (c .before .before .before .before .before .before .before .before .before .before .before .before .before .before .before .args .n) line (c .before .before .before .before .before .before .before .rule-of .result) (c .before .before .before .before .cite .result) (c .before .before .before .cite2 .result) (c .before .before .before .before .before .before .before .rule-of .ensures) (c .before .before .before .before .cite .ensures) (c .before .before .before .cite2 .ensures)
+returns-4 c =
+    let file = c .before .before .before .before .before .before .before .before .before .before .before .before .before .before .before .args .file .now in
+    let starts = c .before .before .before .before .before .before .before .before .before .before .before .before .before .before .before .args .starts .now in
+    let n = c .before .before .before .before .before .before .before .before .before .before .before .before .before .before .before .args .n in
+    let line = c .before .before .before .before .before .before .before .before .before .before .before .before .before .before .before .args .line in
+    bad-premise file starts n line (c .before .before .before .before .before .before .before .rule-of .result) (c .before .before .before .before .cite .result) (c .before .before .before .cite2 .result) (c .before .before .before .before .before .before .before .rule-of .ensures) (c .before .before .before .before .cite .ensures) (c .before .before .before .cite2 .ensures)
+    (sym (c .before .before .before .before .before .before .before .before .before .before .before .before .has-six .ensures) ∙ not-false (c .before .before .before .before .before .before .before .before .before .before .before .before .has-six .result) (c .before .before .before .before .before .before .before .before .before .before .before .if1 .left))
+    (sym (c .before .before .before .before .before .before .before .before .before .well-formed .ensures) ∙ not-false (c .before .before .before .before .before .before .before .before .before .well-formed .result) (c .before .before .before .before .before .before .before .before .if2 .left))
+    (sym (c .before .before .before .before .before .before .is-known .ensures) ∙ not-false (c .before .before .before .before .before .before .is-known .result) (c .before .before .before .before .before .if3 .left))
+    (sym (c .before .premises-fit .ensures ∙ ap (λ (m : ℕ). citedFit m (c .before .before .before .before .cite .result) (c .before .before .before .cite2 .result)) (c .before .before .premise-count .ensures)) ∙ not-true (c .before .premises-fit .result) (c .if4 .taken))
 
 is-instance-requires : tie.Need-is-instance-requires
 is-instance-requires c κs = search needs
@@ -66,13 +94,33 @@ add-t16 : tie.Need-add-t16
 add-t16 c = search needs
 
 returns-5 : tie.Need-returns-5
-returns-5 c = let file = c .before .before .before .before .before .before .before .before .before .before .before .before .before .before .before .before .before .args .file .now in let starts = c .before .before .before .before .before .before .before .before .before .before .before .before .before .before .before .before .before .args .starts .now in let line = c .before .before .before .before .before .before .before .before .before .before .before .before .before .before .before .before .before .args .line in no-instance (hasSix file line) (wellFormed (textsAt (line .own) file)) (isKnown (c .before .before .before .before .before .before .before .before .before .rule-of .result)) (citedFit (countOf (c .before .before .before .before .before .before .before .before .before .rule-of .result)) (c .before .before .before .before .before .before .cite .result) (c .before .before .before .before .before .cite2 .result)) (instanceAt file (c .before .before .before .before .before .before .before .before .before .rule-of .result) (line .own) (c .before .before .before .before .before .before .cite .result) (c .before .before .before .before .before .cite2 .result)) (c .before .before .before .before .before .before .before .before .before .before .before .before .before .before .before .before .before .args .n + 1) (sym (c .before .before .before .before .before .before .before .before .before .before .before .before .before .before .has-six .ensures) ∙ not-false (c .before .before .before .before .before .before .before .before .before .before .before .before .before .before .has-six .result) (c .before .before .before .before .before .before .before .before .before .before .before .before .before .if1 .left)) (sym (c .before .before .before .before .before .before .before .before .before .before .before .well-formed .ensures) ∙ not-false (c .before .before .before .before .before .before .before .before .before .before .before .well-formed .result) (c .before .before .before .before .before .before .before .before .before .before .if2 .left)) (sym (c .before .before .before .before .before .before .before .before .is-known .ensures) ∙ not-false (c .before .before .before .before .before .before .before .before .is-known .result) (c .before .before .before .before .before .before .before .if3 .left)) (sym (c .before .before .before .premises-fit .ensures ∙ ap (λ (m : ℕ). citedFit m (c .before .before .before .before .before .before .cite .result) (c .before .before .before .before .before .cite2 .result)) (c .before .before .before .before .premise-count .ensures)) ∙ not-false (c .before .before .before .premises-fit .result) (c .before .before .if4 .left)) (sym (c .before .is-instance .ensures) ∙ not-true (c .before .is-instance .result) (c .if5 .taken)) ∙ same-reply file starts (c .before .before .before .before .before .before .before .before .before .before .before .before .before .before .before .before .before .args .n) line (c .before .before .before .before .before .before .before .before .before .rule-of .result) (c .before .before .before .before .before .before .cite .result) (c .before .before .before .before .before .cite2 .result) (c .before .before .before .before .before .before .before .before .before .rule-of .ensures) (c .before .before .before .before .before .before .cite .ensures) (c .before .before .before .before .before .cite2 .ensures)
+returns-5 c =
+    let file = c .before .before .before .before .before .before .before .before .before .before .before .before .before .before .before .before .before .args .file .now in
+    let starts = c .before .before .before .before .before .before .before .before .before .before .before .before .before .before .before .before .before .args .starts .now in
+    let n = c .before .before .before .before .before .before .before .before .before .before .before .before .before .before .before .before .before .args .n in
+    let line = c .before .before .before .before .before .before .before .before .before .before .before .before .before .before .before .before .before .args .line in
+    no-instance file starts n line (c .before .before .before .before .before .before .before .before .before .rule-of .result) (c .before .before .before .before .before .before .cite .result) (c .before .before .before .before .before .cite2 .result) (c .before .before .before .before .before .before .before .before .before .rule-of .ensures) (c .before .before .before .before .before .before .cite .ensures) (c .before .before .before .before .before .cite2 .ensures)
+    (sym (c .before .before .before .before .before .before .before .before .before .before .before .before .before .before .has-six .ensures) ∙ not-false (c .before .before .before .before .before .before .before .before .before .before .before .before .before .before .has-six .result) (c .before .before .before .before .before .before .before .before .before .before .before .before .before .if1 .left))
+    (sym (c .before .before .before .before .before .before .before .before .before .before .before .well-formed .ensures) ∙ not-false (c .before .before .before .before .before .before .before .before .before .before .before .well-formed .result) (c .before .before .before .before .before .before .before .before .before .before .if2 .left))
+    (sym (c .before .before .before .before .before .before .before .before .is-known .ensures) ∙ not-false (c .before .before .before .before .before .before .before .before .is-known .result) (c .before .before .before .before .before .before .before .if3 .left))
+    (sym (c .before .before .before .premises-fit .ensures ∙ ap (λ (m : ℕ). citedFit m (c .before .before .before .before .before .before .cite .result) (c .before .before .before .before .before .cite2 .result)) (c .before .before .before .before .premise-count .ensures)) ∙ not-false (c .before .before .before .premises-fit .result) (c .before .before .if4 .left))
+    (sym (c .before .is-instance .ensures) ∙ not-true (c .before .is-instance .result) (c .if5 .taken))
 
 add-t14 : tie.Need-add-t14
 add-t14 c = search needs
 
 returns-6 : tie.Need-returns-6
-returns-6 c = let file = c .before .before .before .before .before .before .before .before .before .before .before .before .before .before .before .before .before .args .file .now in let starts = c .before .before .before .before .before .before .before .before .before .before .before .before .before .before .before .before .before .args .starts .now in let line = c .before .before .before .before .before .before .before .before .before .before .before .before .before .before .before .before .before .args .line in good (hasSix file line) (wellFormed (textsAt (line .own) file)) (isKnown (c .before .before .before .before .before .before .before .before .before .rule-of .result)) (citedFit (countOf (c .before .before .before .before .before .before .before .before .before .rule-of .result)) (c .before .before .before .before .before .before .cite .result) (c .before .before .before .before .before .cite2 .result)) (instanceAt file (c .before .before .before .before .before .before .before .before .before .rule-of .result) (line .own) (c .before .before .before .before .before .before .cite .result) (c .before .before .before .before .before .cite2 .result)) (c .before .before .before .before .before .before .before .before .before .before .before .before .before .before .before .before .before .args .n + 1) (sym (c .before .before .before .before .before .before .before .before .before .before .before .before .before .before .has-six .ensures) ∙ not-false (c .before .before .before .before .before .before .before .before .before .before .before .before .before .before .has-six .result) (c .before .before .before .before .before .before .before .before .before .before .before .before .before .if1 .left)) (sym (c .before .before .before .before .before .before .before .before .before .before .before .well-formed .ensures) ∙ not-false (c .before .before .before .before .before .before .before .before .before .before .before .well-formed .result) (c .before .before .before .before .before .before .before .before .before .before .if2 .left)) (sym (c .before .before .before .before .before .before .before .before .is-known .ensures) ∙ not-false (c .before .before .before .before .before .before .before .before .is-known .result) (c .before .before .before .before .before .before .before .if3 .left)) (sym (c .before .before .before .premises-fit .ensures ∙ ap (λ (m : ℕ). citedFit m (c .before .before .before .before .before .before .cite .result) (c .before .before .before .before .before .cite2 .result)) (c .before .before .before .before .premise-count .ensures)) ∙ not-false (c .before .before .before .premises-fit .result) (c .before .before .if4 .left)) (sym (c .before .is-instance .ensures) ∙ not-false (c .before .is-instance .result) (c .if5 .left)) ∙ same-reply file starts (c .before .before .before .before .before .before .before .before .before .before .before .before .before .before .before .before .before .args .n) line (c .before .before .before .before .before .before .before .before .before .rule-of .result) (c .before .before .before .before .before .before .cite .result) (c .before .before .before .before .before .cite2 .result) (c .before .before .before .before .before .before .before .before .before .rule-of .ensures) (c .before .before .before .before .before .before .cite .ensures) (c .before .before .before .before .before .cite2 .ensures)
+returns-6 c =
+    let file = c .before .before .before .before .before .before .before .before .before .before .before .before .before .before .before .before .before .args .file .now in
+    let starts = c .before .before .before .before .before .before .before .before .before .before .before .before .before .before .before .before .before .args .starts .now in
+    let n = c .before .before .before .before .before .before .before .before .before .before .before .before .before .before .before .before .before .args .n in
+    let line = c .before .before .before .before .before .before .before .before .before .before .before .before .before .before .before .before .before .args .line in
+    good file starts n line (c .before .before .before .before .before .before .before .before .before .rule-of .result) (c .before .before .before .before .before .before .cite .result) (c .before .before .before .before .before .cite2 .result) (c .before .before .before .before .before .before .before .before .before .rule-of .ensures) (c .before .before .before .before .before .before .cite .ensures) (c .before .before .before .before .before .cite2 .ensures)
+    (sym (c .before .before .before .before .before .before .before .before .before .before .before .before .before .before .has-six .ensures) ∙ not-false (c .before .before .before .before .before .before .before .before .before .before .before .before .before .before .has-six .result) (c .before .before .before .before .before .before .before .before .before .before .before .before .before .if1 .left))
+    (sym (c .before .before .before .before .before .before .before .before .before .before .before .well-formed .ensures) ∙ not-false (c .before .before .before .before .before .before .before .before .before .before .before .well-formed .result) (c .before .before .before .before .before .before .before .before .before .before .if2 .left))
+    (sym (c .before .before .before .before .before .before .before .before .is-known .ensures) ∙ not-false (c .before .before .before .before .before .before .before .before .is-known .result) (c .before .before .before .before .before .before .before .if3 .left))
+    (sym (c .before .before .before .premises-fit .ensures ∙ ap (λ (m : ℕ). citedFit m (c .before .before .before .before .before .before .cite .result) (c .before .before .before .before .before .cite2 .result)) (c .before .before .before .before .premise-count .ensures)) ∙ not-false (c .before .before .before .premises-fit .result) (c .before .before .if4 .left))
+    (sym (c .before .is-instance .ensures) ∙ not-false (c .before .is-instance .result) (c .if5 .left))
 
 pub check-line-spec : {M : Type 1} → statement M
 check-line-spec =

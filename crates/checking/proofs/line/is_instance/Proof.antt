@@ -1,7 +1,5 @@
 -- `line::is_instance` meets its contract: its tests are those of the definition. Assumes nothing.
 use mathlib.Core.Path.{sym, _∙_}
-use Rattle.checking.specs.Fields.{textsAt}
-use Rattle.checking.specs.TextInstance.{asksText, buildsText}
 use Rattle.checking.proofs.Tests.{two-made, two-missed}
 use Rattle.checking.proofs.Replied.{instance-named}
 use borrow.Author.Needs.{needs}
@@ -27,10 +25,16 @@ builds-requires : tie.Need-builds-requires
 builds-requires c κs = search needs
 
 returns : tie.Need-returns
-returns c = let own = textsAt (c .before .before .before .before .before .before .before .before .args .own) (c .before .before .before .before .before .before .before .before .args .file .now) in let i = textsAt (c .before .before .before .before .before .judged-at .result) (c .before .before .before .before .before .before .before .before .args .file .now) in let k = textsAt (c .before .before .before .judged-at2 .result) (c .before .before .before .before .before .before .before .before .args .file .now) in instance-named (c .before .before .before .before .before .before .before .before .args .file .now) (c .before .before .before .before .before .before .before .before .args .rule) (c .before .before .before .before .before .before .before .before .args .own) (c .before .before .before .before .before .judged-at .result) (c .before .before .before .judged-at2 .result) (c .before .before .before .before .before .before .before .before .args .first) (c .before .before .before .before .before .before .before .before .args .second) (c .before .before .before .before .before .before .start-or .result) (c .before .before .before .before .start-or2 .result) (c .builds .result) (c .before .before .before .before .before .before .start-or .ensures) (c .before .before .before .before .before .judged-at .ensures) (c .before .before .before .before .start-or2 .ensures) (c .before .before .before .judged-at2 .ensures) (two-made (asksText (c .before .before .before .before .before .before .before .before .args .rule) own i k) (buildsText (c .before .before .before .before .before .before .before .before .args .rule) (own .term) (i .term) (k .term)) (c .builds .result) (sym (c .before .before .asks .ensures) ∙ c .before .if1 .taken) (c .builds .ensures))
+returns c =
+    instance-named (c .before .before .before .before .before .before .before .before .args .file .now) (c .before .before .before .before .before .before .before .before .args .rule) (c .before .before .before .before .before .before .before .before .args .own) (c .before .before .before .before .before .judged-at .result) (c .before .before .before .judged-at2 .result) (c .before .before .before .before .before .before .before .before .args .first) (c .before .before .before .before .before .before .before .before .args .second)
+    (c .before .before .before .before .before .before .start-or .result) (c .before .before .before .before .start-or2 .result) (c .builds .result) (c .before .before .before .before .before .before .start-or .ensures) (c .before .before .before .before .before .judged-at .ensures) (c .before .before .before .before .start-or2 .ensures) (c .before .before .before .judged-at2 .ensures)
+    (two-made _ _ (c .builds .result) (sym (c .before .before .asks .ensures) ∙ c .before .if1 .taken) (c .builds .ensures))
 
 returns-2 : tie.Need-returns-2
-returns-2 c = let own = textsAt (c .before .before .before .before .before .before .before .args .own) (c .before .before .before .before .before .before .before .args .file .now) in let i = textsAt (c .before .before .before .before .judged-at .result) (c .before .before .before .before .before .before .before .args .file .now) in let k = textsAt (c .before .before .judged-at2 .result) (c .before .before .before .before .before .before .before .args .file .now) in instance-named (c .before .before .before .before .before .before .before .args .file .now) (c .before .before .before .before .before .before .before .args .rule) (c .before .before .before .before .before .before .before .args .own) (c .before .before .before .before .judged-at .result) (c .before .before .judged-at2 .result) (c .before .before .before .before .before .before .before .args .first) (c .before .before .before .before .before .before .before .args .second) (c .before .before .before .before .before .start-or .result) (c .before .before .before .start-or2 .result) (c .before .asks .result) (c .before .before .before .before .before .start-or .ensures) (c .before .before .before .before .judged-at .ensures) (c .before .before .before .start-or2 .ensures) (c .before .before .judged-at2 .ensures) (c .if1 .left ∙ two-missed (asksText (c .before .before .before .before .before .before .before .args .rule) own i k) (buildsText (c .before .before .before .before .before .before .before .args .rule) (own .term) (i .term) (k .term)) (sym (c .before .asks .ensures) ∙ c .if1 .left))
+returns-2 c =
+    instance-named (c .before .before .before .before .before .before .before .args .file .now) (c .before .before .before .before .before .before .before .args .rule) (c .before .before .before .before .before .before .before .args .own) (c .before .before .before .before .judged-at .result) (c .before .before .judged-at2 .result) (c .before .before .before .before .before .before .before .args .first) (c .before .before .before .before .before .before .before .args .second)
+    (c .before .before .before .before .before .start-or .result) (c .before .before .before .start-or2 .result) (c .before .asks .result) (c .before .before .before .before .before .start-or .ensures) (c .before .before .before .before .judged-at .ensures) (c .before .before .before .start-or2 .ensures) (c .before .before .judged-at2 .ensures)
+    (c .if1 .left ∙ two-missed _ _ (sym (c .before .asks .ensures) ∙ c .if1 .left))
 
 pub is-instance-spec : {M : Type 1} → statement M
 is-instance-spec =

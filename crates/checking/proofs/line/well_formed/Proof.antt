@@ -6,7 +6,6 @@ use mathlib.Core.Logic.{⊎-elim, inl, inr}
 use Rattle.calculus.specs.Parse.{termOf}
 use Rattle.types.specs.Parse.{typeOf, contextOf}
 use Rattle.types.specs.Tests.{isSome}
-use Rattle.checking.specs.Fields.{textsAt}
 use Rattle.checking.proofs.Tests.{three-made, three-missed}
 use borrow.Author.Needs.{needs}
 use Rattle.checking.proofs.line.well_formed.Statement.{statement}
@@ -31,10 +30,22 @@ is-type-requires : tie.Need-is-type-requires
 is-type-requires c κs = search needs
 
 returns : tie.Need-returns
-returns c = let own = textsAt (c .before .before .before .before .before .before .before .args .own) (c .before .before .before .before .before .before .before .args .file .now) in three-made (isSome (contextOf (own .context))) (isSome (termOf (own .term))) (isSome (typeOf (own .type))) (c .before .before .before .if1 .if2) (c .is-type .result) (⊎-elim (λ w. inl (sym (c .before .before .before .before .is-context .ensures ∙ ap (λ (s : List ℕ). isSome (contextOf s)) (c .before .before .before .before .before .bytes-of .ensures)) ∙ w .0 .taken, w .3 ∙ w .2 .ensures ∙ ap (λ (s : List ℕ). isSome (termOf s)) (w .1 .ensures))) (λ w. inr (sym (c .before .before .before .before .is-context .ensures ∙ ap (λ (s : List ℕ). isSome (contextOf s)) (c .before .before .before .before .before .bytes-of .ensures)) ∙ w .0 .left, w .1 ∙ w .0 .left)) (c .before .before .before .if1 .came)) (c .before .before .if2 .taken) (c .is-type .ensures ∙ ap (λ (s : List ℕ). isSome (typeOf s)) (c .before .bytes-of3 .ensures))
+returns c =
+    three-made _ _ _ (c .before .before .before .if1 .if2) (c .is-type .result)
+    (⊎-elim
+    (λ w. inl (sym (c .before .before .before .before .is-context .ensures ∙ ap (λ (s : List ℕ). isSome (contextOf s)) (c .before .before .before .before .before .bytes-of .ensures)) ∙ w .0 .taken, w .3 ∙ w .2 .ensures ∙ ap (λ (s : List ℕ). isSome (termOf s)) (w .1 .ensures)))
+    (λ w. inr (sym (c .before .before .before .before .is-context .ensures ∙ ap (λ (s : List ℕ). isSome (contextOf s)) (c .before .before .before .before .before .bytes-of .ensures)) ∙ w .0 .left, w .1 ∙ w .0 .left))
+    (c .before .before .before .if1 .came))
+    (c .before .before .if2 .taken) (c .is-type .ensures ∙ ap (λ (s : List ℕ). isSome (typeOf s)) (c .before .bytes-of3 .ensures))
 
 returns-2 : tie.Need-returns-2
-returns-2 c = let own = textsAt (c .before .before .before .before .before .args .own) (c .before .before .before .before .before .args .file .now) in three-missed (isSome (contextOf (own .context))) (isSome (termOf (own .term))) (isSome (typeOf (own .type))) (c .before .if1 .if2) (⊎-elim (λ w. inl (sym (c .before .before .is-context .ensures ∙ ap (λ (s : List ℕ). isSome (contextOf s)) (c .before .before .before .bytes-of .ensures)) ∙ w .0 .taken, w .3 ∙ w .2 .ensures ∙ ap (λ (s : List ℕ). isSome (termOf s)) (w .1 .ensures))) (λ w. inr (sym (c .before .before .is-context .ensures ∙ ap (λ (s : List ℕ). isSome (contextOf s)) (c .before .before .before .bytes-of .ensures)) ∙ w .0 .left, w .1 ∙ w .0 .left)) (c .before .if1 .came)) (c .if2 .left)
+returns-2 c =
+    three-missed _ _ _ (c .before .if1 .if2)
+    (⊎-elim
+    (λ w. inl (sym (c .before .before .is-context .ensures ∙ ap (λ (s : List ℕ). isSome (contextOf s)) (c .before .before .before .bytes-of .ensures)) ∙ w .0 .taken, w .3 ∙ w .2 .ensures ∙ ap (λ (s : List ℕ). isSome (termOf s)) (w .1 .ensures)))
+    (λ w. inr (sym (c .before .before .is-context .ensures ∙ ap (λ (s : List ℕ). isSome (contextOf s)) (c .before .before .before .bytes-of .ensures)) ∙ w .0 .left, w .1 ∙ w .0 .left))
+    (c .before .if1 .came))
+    (c .if2 .left)
 
 pub well-formed-spec : {M : Type 1} → statement M
 well-formed-spec =

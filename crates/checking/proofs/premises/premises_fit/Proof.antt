@@ -1,6 +1,5 @@
 -- `premises::premises_fit` meets its contract: its tests are those of the definition. Assumes nothing.
 use mathlib.Core.Path.{sym, _∙_}
-use Rattle.checking.specs.Cited.{isLine}
 use Rattle.checking.proofs.Tests.{two-made, two-missed}
 use Rattle.checking.proofs.Replied.{two-fit}
 use borrow.Author.Needs.{needs}
@@ -38,10 +37,14 @@ is-line-requires-3 : tie.Need-is-line-requires-3
 is-line-requires-3 c κs = search needs
 
 returns-5 : tie.Need-returns-5
-returns-5 c = two-fit (c .before .before .before .before .before .args .count) (c .before .before .before .before .before .args .first) (c .before .before .before .before .before .args .second) (c .is-line3 .result) (c .before .before .before .before .if1 .left) (c .before .before .before .if3 .left) (two-made (isLine (c .before .before .before .before .before .args .first)) (isLine (c .before .before .before .before .before .args .second)) (c .is-line3 .result) (sym (c .before .before .is-line2 .ensures) ∙ c .before .if5 .taken) (c .is-line3 .ensures))
+returns-5 c =
+    two-fit (c .before .before .before .before .before .args .count) (c .before .before .before .before .before .args .first) (c .before .before .before .before .before .args .second) (c .is-line3 .result) (c .before .before .before .before .if1 .left) (c .before .before .before .if3 .left)
+    (two-made _ _ (c .is-line3 .result) (sym (c .before .before .is-line2 .ensures) ∙ c .before .if5 .taken) (c .is-line3 .ensures))
 
 returns-6 : tie.Need-returns-6
-returns-6 c = two-fit (c .before .before .before .before .args .count) (c .before .before .before .before .args .first) (c .before .before .before .before .args .second) (c .before .is-line2 .result) (c .before .before .before .if1 .left) (c .before .before .if3 .left) (c .if5 .left ∙ two-missed (isLine (c .before .before .before .before .args .first)) (isLine (c .before .before .before .before .args .second)) (sym (c .before .is-line2 .ensures) ∙ c .if5 .left))
+returns-6 c =
+    two-fit (c .before .before .before .before .args .count) (c .before .before .before .before .args .first) (c .before .before .before .before .args .second) (c .before .is-line2 .result) (c .before .before .before .if1 .left) (c .before .before .if3 .left)
+    (c .if5 .left ∙ two-missed _ _ (sym (c .before .is-line2 .ensures) ∙ c .if5 .left))
 
 pub premises-fit-spec : {M : Type 1} → statement M
 premises-fit-spec =

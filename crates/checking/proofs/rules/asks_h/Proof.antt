@@ -1,11 +1,7 @@
 -- `rules::asks_h` meets its contract: its tests are those of the definition. Assumes nothing.
 use mathlib.Core.Path.{sym, _∙_}
 use mathlib.Core.Logic.{⊎-elim, inl, inr}
-use Rattle.slices.specs.Same.{same}
-use Rattle.checking.specs.Fields.{textsAt}
 use Rattle.checking.proofs.Tests.{three-made, three-missed}
-use Rattle.calculus.specs.Types.{Sign}
-use Rattle.checking.specs.TextInstance.{typeText}
 use borrow.Author.Needs.{needs}
 use Rattle.checking.proofs.rules.asks_h.Statement.{statement}
 use Rattle.checking.proofs.rules.asks_h.Tie as tie
@@ -20,10 +16,22 @@ is-join-requires : tie.Need-is-join-requires
 is-join-requires c κs = search needs
 
 returns : tie.Need-returns
-returns c = let own = textsAt (c .before .before .before .before .before .args .own) (c .before .before .before .before .before .args .file .now) in let first = textsAt (c .before .before .before .before .before .args .first) (c .before .before .before .before .before .args .file .now) in let second = textsAt (c .before .before .before .before .before .args .second) (c .before .before .before .before .before .args .file .now) in three-made (same (first .context) (own .context)) (same (second .context) (own .context)) (same (first .type) (typeText Sign.arrow (second .type) (own .type))) (c .before .before .if1 .if2) (c .is-join .result) (⊎-elim (λ w. inl (sym (c .before .before .before .same-text .ensures) ∙ w .0 .taken, w .2 ∙ w .1 .ensures)) (λ w. inr (sym (c .before .before .before .same-text .ensures) ∙ w .0 .left, w .1 ∙ w .0 .left)) (c .before .before .if1 .came)) (c .before .if2 .taken) (c .is-join .ensures)
+returns c =
+    three-made _ _ _ (c .before .before .if1 .if2) (c .is-join .result)
+    (⊎-elim
+    (λ w. inl (sym (c .before .before .before .same-text .ensures) ∙ w .0 .taken, w .2 ∙ w .1 .ensures))
+    (λ w. inr (sym (c .before .before .before .same-text .ensures) ∙ w .0 .left, w .1 ∙ w .0 .left))
+    (c .before .before .if1 .came))
+    (c .before .if2 .taken) (c .is-join .ensures)
 
 returns-2 : tie.Need-returns-2
-returns-2 c = let own = textsAt (c .before .before .before .before .args .own) (c .before .before .before .before .args .file .now) in let first = textsAt (c .before .before .before .before .args .first) (c .before .before .before .before .args .file .now) in let second = textsAt (c .before .before .before .before .args .second) (c .before .before .before .before .args .file .now) in three-missed (same (first .context) (own .context)) (same (second .context) (own .context)) (same (first .type) (typeText Sign.arrow (second .type) (own .type))) (c .before .if1 .if2) (⊎-elim (λ w. inl (sym (c .before .before .same-text .ensures) ∙ w .0 .taken, w .2 ∙ w .1 .ensures)) (λ w. inr (sym (c .before .before .same-text .ensures) ∙ w .0 .left, w .1 ∙ w .0 .left)) (c .before .if1 .came)) (c .if2 .left)
+returns-2 c =
+    three-missed _ _ _ (c .before .if1 .if2)
+    (⊎-elim
+    (λ w. inl (sym (c .before .before .same-text .ensures) ∙ w .0 .taken, w .2 ∙ w .1 .ensures))
+    (λ w. inr (sym (c .before .before .same-text .ensures) ∙ w .0 .left, w .1 ∙ w .0 .left))
+    (c .before .if1 .came))
+    (c .if2 .left)
 
 pub asks-h-spec : {M : Type 1} → statement M
 asks-h-spec =
