@@ -16,7 +16,7 @@ use Rattle.calculus.specs.Typing.{Judgement}
 use Rattle.slices.specs.Split.{consFirst, cutOr, split, fields}
 use Rattle.checking.specs.Checking.{Found, foundFields}
 use Rattle.checking.specs.Texts.{textAt}
-use Rattle.checking.proofs.Instance.{and-both}
+use Rattle.slices.proofs.Decimal.{and-both}
 use Rattle.checking.specs.Fields.{stopIn, stopAt, behindIn, fieldAt, judgedAt, sixAt, isTab, hasSix}
 
 -- ---- pieces

@@ -21,7 +21,8 @@ use Rattle.checking.specs.Instance.{Premises, isInstance}
 use Rattle.checking.specs.Checking.{Found, earlierLine, noPremise, namedPremise, premisesNone, premisesOne, premisesTwo, premiseCount, premisesOf, foundIf, foundInstance, foundName, foundJudgement, foundFields}
 use Rattle.checking.specs.Accepted.{Names, LineFollows}
 use Rattle.checking.proofs.Instance.{listed, instance-follows}
-use Rattle.checking.proofs.Split.{Free, AllFree, free-joined, free-text, free-written, free-name, joined, split-joined, joined-split}
+use Rattle.slices.proofs.Splitting.{Free}
+use Rattle.checking.proofs.Split.{AllFree, free-joined, free-text, free-written, free-name, joined, split-joined, joined-split}
 use Rattle.checking.proofs.Numeral.{Proper, premise-text, text-premise, premise-injective, free-premise}
 
 -- the fields of a judgement

@@ -4,6 +4,7 @@ use mathlib.Core.Path.{_≡_, refl}
 use mathlib.Core.Bool.{Bool, true, false, _&&_, false≢true}
 use mathlib.Core.List.{List, [], _∷_}
 use mathlib.Core.Logic.{_↔_}
+use Rattle.slices.proofs.Decimal.{and-both}
 use Rattle.slices.proofs.Same.{same-refl, same-equal}
 use Rattle.calculus.specs.Term.{Term, text}
 use Rattle.calculus.specs.Types.{Simple, Context, Ty, simpleText, contextText, tyText}
@@ -17,11 +18,6 @@ abbrev pub listed : Premises → List Judgement
 listed Premises.none = []
 listed (Premises.one i) = i ∷ []
 listed (Premises.two i k) = i ∷ k ∷ []
-
--- both of two tests hold where their conjunction does
-pub and-both : (a b : Bool) → (a && b) ≡ true → (a ≡ true) × (b ≡ true)
-and-both true b e = (refl, e)
-and-both false b e = absurd (false≢true e)
 
 -- terms that pass the test are equal
 equal-terms : (t u : Term) → sameTerm t u ≡ true → t ≡ u

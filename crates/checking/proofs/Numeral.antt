@@ -10,24 +10,8 @@ use borrow.Author.Tests.{leb-true, le-leb, ltb-true, lt-ltb, eqb-true, ne-eqb}
 use native.Mathlib.Omega.{arith}
 use Rattle.slices.specs.Numeral.{isDigit, allDigits, valueFrom, someIf, numberOf, digits, numeral}
 use Rattle.checking.specs.Line.{Premise, premiseText, premiseOr, isDash, premiseOf}
-use Rattle.checking.proofs.Instance.{and-both}
-use Rattle.checking.proofs.Split.{Free}
-
--- places enough for a number are as good as any more
-digits-enough : (p q n : ℕ) → n ≤ p → n ≤ q → digits p n ≡ digits q n
-digits-enough zero zero n low high = refl
-digits-enough zero (suc q) zero low high = refl
-digits-enough zero (suc q) (suc n) low high = absurd (omega arith)
-digits-enough (suc p) zero zero low high = refl
-digits-enough (suc p) zero (suc n) low high = absurd (omega arith)
-digits-enough (suc p) (suc q) zero low high = refl
-digits-enough (suc p) (suc q) (suc n) low high = ap (λ (s : List ℕ). s ++ ((48 + suc n % 10) ∷ [])) (digits-enough p q (suc n / 10) (omega arith) (omega arith))
-
--- a number is written as its tenth and its last digit
-numeral-tenth : (n : ℕ) → 1 ≤ n → numeral n ≡ numeral (n / 10) ++ ((48 + n % 10) ∷ [])
-unfolding numeral
-numeral-tenth zero some-n = absurd (omega arith)
-numeral-tenth (suc n) some-n = ap (λ (s : List ℕ). s ++ ((48 + suc n % 10) ∷ [])) (digits-enough n (suc n / 10) (suc n / 10) (omega arith) (omega arith))
+use Rattle.slices.proofs.Splitting.{Free}
+use Rattle.slices.proofs.Decimal.{and-both, digits-enough, numeral-tenth, digit-range, value-append, some-if, free-digits}
 
 -- one digit more behind a number is ten times the number and that digit
 numeral-digit : (m b : ℕ) → 48 ≤ b → b ≤ 57 → 1 ≤ m * 10 + (b - 48) → numeral (m * 10 + (b - 48)) ≡ numeral m ++ (b ∷ [])
@@ -35,15 +19,6 @@ numeral-digit m b low high some-n =
     let tenth : (m * 10 + (b - 48)) / 10 ≡ m = omega arith in
     let last : 48 + (m * 10 + (b - 48)) % 10 ≡ b = omega arith in
     numeral-tenth (m * 10 + (b - 48)) some-n ∙ ap₂ (λ (n c : ℕ). numeral n ++ (c ∷ [])) tenth last
-
--- a byte that passes the test is a digit
-digit-range : (b : ℕ) → isDigit b ≡ true → (48 ≤ b) × (b ≤ 57)
-digit-range b e = let (low, high) = and-both (leb 48 b) (leb b 57) e in (leb-true 48 b low, leb-true b 57 high)
-
--- a digit behind a number makes it ten times as large, and the digit more
-value-append : (m : ℕ) (s : List ℕ) (b : ℕ) → valueFrom m (s ++ (b ∷ [])) ≡ valueFrom m s * 10 + (b - 48)
-value-append m [] b = refl
-value-append m (c ∷ s) b = value-append (m * 10 + (c - 48)) s b
 
 -- the value of a number as it is written is that number
 value-digits : (p n : ℕ) → n ≤ p → valueFrom 0 (digits p n) ≡ n
@@ -118,11 +93,6 @@ numeral-from m (b ∷ s) some-m all =
     let (spelt, some-n) = numeral-from (m * 10 + (b - 48)) s (omega arith) others in
     (spelt ∙ ap (λ (t : List ℕ). t ++ s) (numeral-digit m b low high (omega arith)) ∙ append-assoc (numeral m) (b ∷ []) s, some-n)
 
--- a number that is given is the value, and the test held
-some-if : (t : Bool) (m n : ℕ) → someIf t m ≡ some n → (t ≡ true) × (m ≡ n)
-some-if true m n e = (refl, cc)
-some-if false m n e = (cc, cc)
-
 -- a number that is read is from 1 upwards, and was written as it is
 pub numeral-number : (bytes : List ℕ) (n : ℕ) → numberOf bytes ≡ some n → (numeral n ≡ bytes) × (1 ≤ n)
 unfolding numberOf numeral
@@ -175,14 +145,6 @@ premise-injective Premise.dash Premise.dash e = refl
 premise-injective Premise.dash (Premise.line n) e = absurd (false≢true (ap allDigits e ∙ numeral-digits n))
 premise-injective (Premise.line n) Premise.dash e = absurd (false≢true (ap allDigits (sym e) ∙ numeral-digits n))
 premise-injective (Premise.line m) (Premise.line n) e = ap Premise.line (numeral-injective m n e)
-
--- no mark below `0` stands in digits
-free-digits : (mark : ℕ) (s : List ℕ) → mark < 48 → allDigits s ≡ true → Free mark s
-free-digits mark [] below all = tt
-free-digits mark (b ∷ s) below all =
-    let (first, others) = and-both (isDigit b) (allDigits s) all in
-    let (low, high) = digit-range b first in
-    (omega arith, free-digits mark s below others)
 
 -- no tab and no line feed stands in a premise's text
 pub free-premise : (mark : ℕ) → mark ≤ 10 → (p : Premise) → Free mark (premiseText p)

@@ -11,21 +11,12 @@ use Rattle.calculus.specs.Term.{Term, text}
 use Rattle.calculus.specs.Types.{Sign, signText, written}
 use Rattle.calculus.specs.Typing.{Name, nameByte}
 use Rattle.slices.specs.Split.{consFirst, cutOr, split, allButLast, lastByte}
-
--- the mark does not stand in the bytes
-abbrev pub Free : (mark : ℕ) → List ℕ → Type 0
-Free mark [] = Unit {0}
-Free mark (b ∷ bytes) = (b ≡ mark → ⊥) × Free mark bytes
+use Rattle.slices.proofs.Splitting.{Free, free-append, split-front, split-piece, split-last}
 
 -- the mark stands in none of the pieces
 abbrev pub AllFree : (mark : ℕ) → List (List ℕ) → Type 0
 AllFree mark [] = Unit {0}
 AllFree mark (piece ∷ pieces) = Free mark piece × AllFree mark pieces
-
--- a mark that stands in neither of two texts stands not in both together
-pub free-append : (mark : ℕ) (s t : List ℕ) → Free mark s → Free mark t → Free mark (s ++ t)
-free-append mark [] t first second = second
-free-append mark (b ∷ s) t first second = (first .0, free-append mark s t (first .1) second)
 
 -- the pieces with the mark between them
 abbrev pub joined : (mark : ℕ) → List (List ℕ) → List ℕ
@@ -44,23 +35,6 @@ free-joined mark between [] other free = tt
 free-joined mark between (piece ∷ []) other free = free .0
 free-joined mark between (piece ∷ next ∷ pieces) other free =
     free-append mark piece (between ∷ joined between (next ∷ pieces)) (free .0) (other, free-joined mark between (next ∷ pieces) other (free .1))
-
--- bytes in which the mark does not stand make the first piece longer
-split-front :
-    (mark : ℕ) (piece rest : List ℕ) (pieces : List (List ℕ)) → Free mark piece → split mark rest ≡ [] ∷ pieces →
-    split mark (piece ++ rest) ≡ piece ∷ pieces
-split-front mark [] rest pieces free e = e
-split-front mark (b ∷ piece) rest pieces free e =
-    ap₂ (λ (t : Bool) (ps : List (List ℕ)). cutOr t b ps) (ne-eqb b mark (free .0)) (split-front mark piece rest pieces (free .1) e)
-
--- up to the first mark goes the first piece
-pub split-piece : (mark : ℕ) (piece rest : List ℕ) → Free mark piece → split mark (piece ++ (mark ∷ rest)) ≡ piece ∷ split mark rest
-split-piece mark piece rest free =
-    split-front mark piece (mark ∷ rest) (split mark rest) free (ap (λ (t : Bool). cutOr t mark (split mark rest)) (eq-eqb mark mark refl))
-
--- bytes in which the mark does not stand are one piece
-pub split-last : (mark : ℕ) (piece : List ℕ) → Free mark piece → split mark piece ≡ piece ∷ []
-split-last mark piece free = ap (split mark) (sym (append-nil piece)) ∙ split-front mark piece [] [] free refl
 
 -- pieces in which the mark does not stand, joined by it, are cut into those pieces
 pub split-joined : (mark : ℕ) (piece : List ℕ) (pieces : List (List ℕ)) → AllFree mark (piece ∷ pieces) → split mark (joined mark (piece ∷ pieces)) ≡ piece ∷ pieces

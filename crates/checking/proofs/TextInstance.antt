@@ -23,7 +23,7 @@ use Rattle.checking.specs.Checking.{premiseCount}
 use Rattle.checking.specs.Texts.{simpleBehind}
 use Rattle.checking.specs.Fields.{Texts}
 use Rattle.checking.specs.TextInstance.{ruleOf, typeText, asksTextJ, asksTextR, asksTextH, asksTextA, asksTextI, asksTextB, asksTextS, instanceText}
-use Rattle.checking.proofs.Instance.{and-both}
+use Rattle.slices.proofs.Decimal.{and-both}
 use Rattle.checking.proofs.Joined.{differ, behind-text}
 
 -- the texts of a judgement

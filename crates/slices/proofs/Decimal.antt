@@ -11,7 +11,8 @@ use native.Mathlib.Omega.{arith}
 use Rattle.slices.specs.Numeral.{isDigit, allDigits, valueFrom, someIf, numberOf, digits, numeral, decimal, zeroOr, isZero, decimalOf}
 use Rattle.slices.proofs.Splitting.{Free}
 
-and-both : (s t : Bool) → (s && t) ≡ true → (s ≡ true) × (t ≡ true)
+-- both parts of a test that held
+pub and-both : (s t : Bool) → (s && t) ≡ true → (s ≡ true) × (t ≡ true)
 and-both true t e = (refl, e)
 and-both false t e = absurd (false≢true e)
 
@@ -30,7 +31,7 @@ digit-free mark b below e q = let (low, high) = digit-range b e in omega arith
 -- ---- written
 
 -- places enough for a number are as good as any more
-digits-enough : (p q n : ℕ) → n ≤ p → n ≤ q → digits p n ≡ digits q n
+pub digits-enough : (p q n : ℕ) → n ≤ p → n ≤ q → digits p n ≡ digits q n
 digits-enough zero zero n low high = refl
 digits-enough zero (suc q) zero low high = refl
 digits-enough zero (suc q) (suc n) low high = absurd (omega arith)
@@ -70,7 +71,7 @@ decimal-digit (suc n) small =
 -- ---- read
 
 -- a digit behind digits: the value, and that all are digits
-value-append : (m : ℕ) (s : List ℕ) (b : ℕ) → valueFrom m (s ++ (b ∷ [])) ≡ valueFrom m s * 10 + (b - 48)
+pub value-append : (m : ℕ) (s : List ℕ) (b : ℕ) → valueFrom m (s ++ (b ∷ [])) ≡ valueFrom m s * 10 + (b - 48)
 value-append m [] b = refl
 value-append m (c ∷ s) b = value-append (m * 10 + (c - 48)) s b
 
@@ -80,7 +81,7 @@ all-append (c ∷ s) b all digit =
     let (first, others) = and-both (isDigit c) (allDigits s) all in
     ap₂ _&&_ first (all-append s b others digit)
 
-some-if : (t : Bool) (m n : ℕ) → someIf t m ≡ some n → (t ≡ true) × (m ≡ n)
+pub some-if : (t : Bool) (m n : ℕ) → someIf t m ≡ some n → (t ≡ true) × (m ≡ n)
 some-if true m n e = (refl, cc)
 some-if false m n e = (cc, cc)
 
@@ -131,7 +132,7 @@ decimal-of-number bytes n e = ap (λ (t : Bool). zeroOr t (numberOf bytes)) (no-
     no-zero (b ∷ c ∷ s) q = refl
 
 -- no mark below `0` stands in a number
-free-digits : (mark : ℕ) (s : List ℕ) → mark < 48 → allDigits s ≡ true → Free mark s
+pub free-digits : (mark : ℕ) (s : List ℕ) → mark < 48 → allDigits s ≡ true → Free mark s
 free-digits mark [] below all = tt
 free-digits mark (b ∷ s) below all =
     let (first, others) = and-both (isDigit b) (allDigits s) all in
