@@ -1,5 +1,6 @@
 -- The numbers that the probe answers: a code, and a value behind a pointer. A refusal is document 01's number with its place or line.
 use Prim.Native.Nat.{ℕ}
+use mathlib.Core.Bool.{Bool, true, false}
 use mathlib.Core.List.{List}
 use Rattle.reading.specs.Reply.{Reply}
 use Rattle.comparing.specs.Comparing as comparing
@@ -26,3 +27,9 @@ pub data Probed : Type 0 where
 
 abbrev pub probedCompare : comparing.After → Probed
 probedCompare (comparing.After.after reply first second work) = Probed.probed (comparePair reply) first second work
+
+-- 140 match, 141 no match
+abbrev pub matchPair : Reply Bool → Pair
+matchPair (Reply.refused number line) = Pair.pair number line
+matchPair (Reply.answered true) = Pair.pair 140 0
+matchPair (Reply.answered false) = Pair.pair 141 0

@@ -1,6 +1,8 @@
 // Reading, comparing and matching for the tests: each answer as a code, and a value behind a pointer.
+use checking::Checking;
 use comparing::Comparing;
 use finishing::Admission;
+use matching::Matching;
 use reading::Reading;
 ghost use mathlib.Core.Path.{_≡_};
 ghost use Rattle.reading.specs.Reading.{readingOf};
@@ -8,7 +10,10 @@ ghost use Rattle.reading.specs.Answer.{answerOf as readingAnswer};
 ghost use Rattle.finishing.specs.Answer.{replyOf};
 ghost use Rattle.comparing.specs.Comparing.{comparingOf};
 ghost use Rattle.comparing.specs.Answer.{refusalOf, answerOf as comparingAnswer};
-ghost use Rattle.probe.specs.Numbers.{Pair, readPair, comparePair, Probed, probedCompare};
+ghost use Rattle.checking.specs.Answer.{answerOf as checkingAnswer};
+ghost use Rattle.matching.specs.Matching.{matchingOf};
+ghost use Rattle.matching.specs.Answer.{refusalOf as checkingRefusal, answerOf as matchingAnswer};
+ghost use Rattle.probe.specs.Numbers.{Pair, readPair, comparePair, Probed, probedCompare, matchPair};
 
 // A code and a value.
 pub struct Coded {
@@ -99,5 +104,64 @@ pub extern "C" fn probe_compare(
 {
     let pair = compare_pair(comparing::compare(first, first_term, second, second_term, work, fuel));
     *place = pair.value;
+    pair.code
+}
+
+// The pair of a refusal of checking.
+fn check_pair(checking: Checking) -> Coded
+    ensures { λ r. ⌜ Pair.pair (r .code) (r .value) ≡ matchPair (checkingRefusal (checkingAnswer checking)) ⌝ }
+{
+    match checking {
+        Checking::FileTooLong => Coded { code: 10, value: 0 },
+        Checking::FileEmpty => Coded { code: 11, value: 0 },
+        Checking::NoLineEnd => Coded { code: 12, value: 0 },
+        Checking::TooManyLines => Coded { code: 13, value: 0 },
+        Checking::NotSixFields(line) => Coded {
+            code: 14,
+            value: line,
+        },
+        Checking::Malformed(line) => Coded {
+            code: 15,
+            value: line,
+        },
+        Checking::UnknownRule(line) => Coded {
+            code: 16,
+            value: line,
+        },
+        Checking::BadPremise(line) => Coded {
+            code: 17,
+            value: line,
+        },
+        Checking::NoInstance(line) => Coded {
+            code: 18,
+            value: line,
+        },
+        Checking::Accepted(_) => Coded { code: 0, value: 0 },
+    }
+}
+
+// The pair of matching's answer.
+fn match_pair(matching: Matching) -> Coded
+    ensures { λ r. ⌜ Pair.pair (r .code) (r .value) ≡ matchPair (matchingAnswer matching) ⌝ }
+{
+    match matching {
+        Matching::Refused(checking) => check_pair(checking),
+        Matching::Match => Coded {
+            code: 140,
+            value: 0,
+        },
+        Matching::NoMatch => Coded {
+            code: 141,
+            value: 0,
+        },
+    }
+}
+
+#[no_mangle]
+pub extern "C" fn probe_match(first: &[u8], second: &[u8], line: &mut usize) -> u64
+    ensures { λ r. ⌜ Pair.pair r (now (line .exit)) ≡ matchPair (matchingOf (now (first .entry)) (now (second .entry))) ⌝ }
+{
+    let pair = match_pair(matching::match_claims(first, second));
+    *line = pair.value;
     pair.code
 }
