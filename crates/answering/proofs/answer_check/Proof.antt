@@ -1,0 +1,22 @@
+-- `answering::answer_check` meets its contract: checking's promise, and the line of its answer. Assumes nothing.
+use Rattle.answering.proofs.Printing.{prints, checked}
+use borrow.Author.Needs.{needs}
+use Rattle.answering.proofs.answer_check.Statement.{statement}
+use Rattle.answering.proofs.answer_check.Tie as tie
+
+check-derivation-requires : tie.Need-check-derivation-requires
+check-derivation-requires c κs = search needs
+
+print-checking-requires : tie.Need-print-checking-requires
+print-checking-requires c κs = search needs
+
+same-length : tie.Need-same-length
+same-length c = search needs
+
+returns : tie.Need-returns
+returns c =
+    prints _ _ _ (checked (c .before .before .before .before .before .before .before .args .file .now) (c .before .before .before .before .check-derivation .ensures)) (c .before .before .print-checking .ensures)
+
+pub answer-check-spec : {M : Type 1} → statement M
+answer-check-spec =
+    tie.close (tie.spec check-derivation-requires print-checking-requires same-length returns)

@@ -1,0 +1,77 @@
+-- `answering::print_run` meets its contract: the line of each outcome begins with its word. Assumes nothing.
+use Rattle.answering.proofs.Printing.{ran-prints}
+use borrow.Author.Needs.{needs}
+use Rattle.answering.proofs.print_run.Statement.{statement}
+use Rattle.answering.proofs.print_run.Tie as tie
+
+cut-requires : tie.Need-cut-requires
+cut-requires c κs = search needs
+
+enum-told : tie.Need-enum-told
+enum-told c = search needs
+
+slice-aggregate-print-line : tie.Need-slice-aggregate-print-line
+slice-aggregate-print-line c = search needs
+
+print-line-requires : tie.Need-print-line-requires
+print-line-requires c κs = search needs
+
+enum-told-2 : tie.Need-enum-told-2
+enum-told-2 c = search needs
+
+slice-aggregate-print-line-2 : tie.Need-slice-aggregate-print-line-2
+slice-aggregate-print-line-2 c = search needs
+
+print-line-requires-2 : tie.Need-print-line-requires-2
+print-line-requires-2 c κs = search needs
+
+enum-told-3 : tie.Need-enum-told-3
+enum-told-3 c = search needs
+
+slice-aggregate-print-line-3 : tie.Need-slice-aggregate-print-line-3
+slice-aggregate-print-line-3 c = search needs
+
+print-line-requires-3 : tie.Need-print-line-requires-3
+print-line-requires-3 c κs = search needs
+
+same-length : tie.Need-same-length
+same-length c = search needs
+
+returns : tie.Need-returns
+returns c =
+    ran-prints (c .before .before .before .before .before .before .before .before .before .before .args .run) (c .before .before .before .before .before .before .before .before .before .before .args .area .now) (c .before .before .before .before .before .before .before .cut .result .now) _ _ _ (c .before .before .before .before .before .before .before .cut .ensures) (c .before .before .before .before .before .enum-told .given .1) (c .before .before .print-line .ensures)
+
+same-length-2 : tie.Need-same-length-2
+same-length-2 c = search needs
+
+returns-2 : tie.Need-returns-2
+returns-2 c =
+    ran-prints (c .before .before .before .before .before .before .before .before .before .before .args .run) (c .before .before .before .before .before .before .before .before .before .before .args .area .now) (c .before .before .before .before .before .before .before .cut .result .now) _ _ _ (c .before .before .before .before .before .before .before .cut .ensures) (c .before .before .before .before .before .enum-told2 .given .1) (c .before .before .print-line2 .ensures)
+
+same-length-3 : tie.Need-same-length-3
+same-length-3 c = search needs
+
+returns-3 : tie.Need-returns-3
+returns-3 c =
+    ran-prints (c .before .before .before .before .before .before .before .before .before .before .args .run) (c .before .before .before .before .before .before .before .before .before .before .args .area .now) (c .before .before .before .before .before .before .before .cut .result .now) _ _ _ (c .before .before .before .before .before .before .before .cut .ensures) (c .before .before .before .before .before .enum-told3 .given .1) (c .before .before .print-line3 .ensures)
+
+pub print-run-spec : {M : Type 1} → statement M
+print-run-spec =
+    tie.close
+    (tie.spec
+    cut-requires
+    enum-told
+    slice-aggregate-print-line
+    print-line-requires
+    enum-told-2
+    slice-aggregate-print-line-2
+    print-line-requires-2
+    enum-told-3
+    slice-aggregate-print-line-3
+    print-line-requires-3
+    same-length
+    returns
+    same-length-2
+    returns-2
+    same-length-3
+    returns-3)

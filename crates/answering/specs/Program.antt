@@ -1,0 +1,31 @@
+-- The two programs, as functions on the whole of standard input. Document 01: "The finishing program reads one line .. Input of any other
+-- shape, or an area size out of range, is 19 at place 0, ahead of finishing's own numbers. .. The checking program reads a file from
+-- standard input".
+use Prim.Native.Nat.{ℕ, _-_}
+use mathlib.Core.List.{List, _++_}
+use mathlib.Core.Option.{Option, none, some}
+use lib.ListN.{length, take, replicate}
+use Rattle.finish_line.specs.Request.{Request, requestOf}
+use Rattle.finishing.specs.Finishing.{finishingOf}
+use Rattle.checking.specs.Checking.{checkingOf}
+use Rattle.answering.specs.Shown.{refusedLine, shownRun, shownCheck}
+
+-- input of another shape
+abbrev pub shapeLine : List ℕ
+shapeLine = refusedLine 19 0
+
+-- an area of that many bytes: at its front the bytes, as many as fit, and zeros behind them
+abbrev pub areaWith : (area : ℕ) → List ℕ → List ℕ
+areaWith area bytes = take area bytes ++ replicate (area - length bytes) 0
+
+abbrev pub requestLine : Option Request → List ℕ
+requestLine none = shapeLine
+requestLine (some (Request.request fuel area term)) = shownRun (finishingOf (areaWith area term) (length term) (replicate area 0) fuel)
+
+-- what the finishing program prints
+unfoldable pub finishProgram : List ℕ → List ℕ
+finishProgram input = requestLine (requestOf input)
+
+-- what the checking program prints
+unfoldable pub checkProgram : List ℕ → List ℕ
+checkProgram file = shownCheck (checkingOf file)
