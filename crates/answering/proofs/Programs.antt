@@ -1,0 +1,59 @@
+-- The programs' definitions on the whole input: what `answer_run` prints for a line that was fed the input, in chunks cut anywhere, with
+-- zeroed buffers, is `finishProgram` of the input; and the first 65,537 bytes of a file decide `checkProgram`. Assumes nothing.
+use Prim.Native.Nat.{ℕ, _≤_, _<_, min}
+use native.Mathlib.Decide.{decLe}
+use native.Mathlib.Omega.{arith}
+use mathlib.Core.Path.{_≡_, sym, _∙_, ap, ap₂}
+use mathlib.Core.List.{List}
+use mathlib.Core.Option.{Option, none, some}
+use borrow.Author.Tests.{lt-ltb}
+use lib.ListN.{length, take, length-take}
+use lib.Seq.{take-all}
+use Rattle.reading.specs.Reply.{Reply}
+use Rattle.checking.specs.Checking.{checkingOf}
+use Rattle.finishing.specs.Finishing.{finishingOf}
+use Rattle.finish_line.specs.Request.{requestOf}
+use Rattle.finish_line.specs.Request.{Request as Wanted}
+use Rattle.finish_line.specs.Answer.{askedOf}
+use Rattle.finish_line.specs.Fed.{fuelCap, lengthCap}
+use Rattle.finish_line.specs.declared.Asked.{Asked}
+use Rattle.finish_line.proofs.Asks.{Answers, inputOf, after, line-answers}
+use Rattle.answering.specs.Shown.{shownRun, shownCheck}
+use Rattle.answering.specs.Program.{areaWith, requestLine, finishProgram, checkProgram}
+use Rattle.answering.specs.Answer.{printedRun}
+use Rattle.answering.proofs.Ranges.{Ranged, ranged}
+use Rattle.answering.proofs.Caps.{capped}
+use Rattle.answering.proofs.Zeros.{zeros, length-zeros, take-zeros, kept-area, length-area}
+
+module _ (n m : ℕ) (room : 16384 ≤ n) (work-room : 16384 ≤ m) where
+  -- what is printed for the line's answer is what the request says
+  answered : (o : Option Wanted) (asked : Asked) (buffer : List ℕ) → Ranged o → Answers (zeros n) o asked buffer → printedRun asked buffer (zeros m) ≡ requestLine o
+  answered none asked buffer r e = ap (λ (a : Asked). printedRun a buffer (zeros m)) e
+  answered (some (Wanted.request fuel area term)) asked buffer r (e, kept) =
+      let front : take area buffer ≡ areaWith area term = ap (take area) kept ∙ kept-area n area term r room in
+      let cleared : take area (zeros m) ≡ zeros area = take-zeros area m (omega arith) in
+      ap (λ (a : Asked). printedRun a buffer (zeros m)) e
+      ∙ ap₂ (λ (a w : List ℕ). shownRun (finishingOf a (min (length term) lengthCap) w (min fuel fuelCap))) front cleared
+      ∙ ap shownRun
+      (capped (areaWith area term) (zeros area) (omega (arith, length-area area term)) (omega (arith, length-area area term, length-zeros area)) (length term) fuel)
+
+  -- the finishing program prints its definition, however its input is cut
+  pub finish-prints :
+      (chunks : List (List ℕ)) →
+      printedRun (askedOf (after (zeros n) chunks .line)) (after (zeros n) chunks .buffer) (zeros m) ≡ finishProgram (inputOf chunks)
+  unfolding finishProgram
+  finish-prints chunks =
+      answered (requestOf (inputOf chunks)) (askedOf (after (zeros n) chunks .line)) (after (zeros n) chunks .buffer) (ranged (inputOf chunks)) (line-answers (zeros n) chunks)
+
+over-long : (file : List ℕ) → 65536 < length file → checkingOf file ≡ Reply.refused 10 0
+unfolding checkingOf
+over-long file h = rw (lt-ltb _ _ h)
+
+-- the checking program reads no more than 65,537 bytes, and what follows changes nothing
+pub check-front : (file : List ℕ) → checkProgram (take 65537 file) ≡ checkProgram file
+unfolding checkProgram
+check-front file = go (decLe (length file) 65537)
+  where
+    go : Dec (length file ≤ 65537) → shownCheck (checkingOf (take 65537 file)) ≡ shownCheck (checkingOf file)
+    go (yes h) = ap (λ (f : List ℕ). shownCheck (checkingOf f)) (take-all 65537 file h)
+    go (no h) = ap shownCheck (over-long (take 65537 file) (omega (arith, length-take 65537 file)) ∙ sym (over-long file (omega arith)))
