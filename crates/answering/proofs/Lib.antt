@@ -4,3 +4,4 @@ pub mod Ranges
 pub mod Caps
 pub mod Zeros
 pub mod Programs
+pub mod Lengths

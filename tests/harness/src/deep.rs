@@ -35,6 +35,8 @@ pub fn deep_terms() -> Vec<(&'static str, Vec<u8>)> {
         ("B to the right under .", joined(&[b".", &repeated("BI", 4_000), b"I", &index(3_999)])),
         ("B to the left under .", joined(&[b".", &repeated("B", 4_000), &repeated("I", 4_001), b"J"])),
         ("A to the left under .", joined(&[b".", &repeated("A", 4_000), &repeated("I", 4_001), b"J"])),
+        ("R^16379 J in a pair", joined(&[b".B", &index(16_379), b"IJ"])),
+        ("H to the left in a pair", joined(&[b".B", &nested("H", 8_188, "J", 8_189), b"IJ"])),
         ("A to the right", joined(&[&repeated("AI", 8_190), b".IJ"])),
         (".BII to the right", joined(&[&repeated(".BII", 4_095), b"J"])),
         (".BII around H", joined(&[&repeated(".BII", 3_000), b"HJJ"])),

@@ -1,0 +1,116 @@
+-- Every line of the finishing program is at most 16,402 bytes, so `out` has room for it and the bytes written are the line. Carried by
+-- the bounds on finishing's answers. Assumes nothing.
+use Prim.Native.Nat.{ℕ, _+_, _*_, _/_, _%_, _≤_, _<_}
+use native.Mathlib.Decide.{decLt}
+use native.Mathlib.Omega.{arith}
+use mathlib.Core.Path.{_≡_, refl, _∙_, ap}
+use mathlib.Core.List.{List, [], _∷_, _++_, List·Memᴰ, List·Memᴰ·head, List·Memᴰ·tail}
+use mathlib.Core.Option.{Option, none, some}
+use lib.ListN.{length, take, drop, length-append, length-take}
+use lib.Seq.{take-at}
+use Rattle.calculus.specs.Term.{Term, size}
+use Rattle.calculus.specs.Run.{Outcome, run, outcome, count, reached}
+use Rattle.calculus.proofs.Runs.{count-fuel, reached-fits}
+use Rattle.calculus.proofs.PrefixCode.{length-text}
+use Rattle.calculus.specs.Examples.{ascii}
+use Rattle.slices.specs.Put.{put, behind}
+use Rattle.slices.specs.Numeral.{decimal}
+use Rattle.slices.proofs.Put.{put-fits, behind-fits}
+use Rattle.slices.proofs.Decimal.{decimal-tenth, decimal-digit}
+use Rattle.stepping.specs.Areas.{holding}
+use Rattle.finishing.specs.Finishing.{After, finishingOf}
+use Rattle.finishing.proofs.Calls.{Call, call}
+use Rattle.finish_line.specs.Printed.{lineOf}
+use Rattle.finish_line.specs.Request.{Request, requestOf}
+use Rattle.answering.specs.Shown.{word, refusedLine, shownRun}
+use Rattle.answering.specs.Program.{areaWith, requestLine, finishProgram}
+use Rattle.answering.proofs.Zeros.{zeros}
+
+-- numbers below b take at most k digits
+abbrev Digits : (b k : ℕ) → Type 0
+Digits b k = (n : ℕ) → n < b → length (decimal n) ≤ k
+
+one-digit : Digits 10 1
+one-digit n h = omega (arith, ap length (decimal-digit n h))
+
+more-digits : (b k : ℕ) → 1 ≤ k → Digits b k → Digits (10 * b) (k + 1)
+more-digits b k low digits n h = go (decLt n 10)
+  where
+    go : Dec (n < 10) → length (decimal n) ≤ k + 1
+    go (yes small) = omega (arith, one-digit n small)
+    go (no large) =
+        omega (arith, ap length (decimal-tenth n (omega arith)), length-append (decimal (n / 10)) ((48 + n % 10) ∷ []), digits (n / 10) (omega arith))
+
+pub seven-digits : Digits 10000000 7
+seven-digits =
+    let two : Digits 100 2 = more-digits 10 1 (omega arith) one-digit in
+    let three : Digits 1000 3 = more-digits 100 2 (omega arith) two in
+    let four : Digits 10000 4 = more-digits 1000 3 (omega arith) three in
+    let five : Digits 100000 5 = more-digits 10000 4 (omega arith) four in
+    let six : Digits 1000000 6 = more-digits 100000 5 (omega arith) five in
+    more-digits 1000000 6 (omega arith) six
+
+length-line : (w : List ℕ) (n : ℕ) (r : List ℕ) → length (lineOf w n r) ≡ length w + length (decimal n) + length r + 3
+length-line w n r =
+    omega
+    (arith, length-append w (9 ∷ decimal n), length-append (w ++ (9 ∷ decimal n)) (9 ∷ r), length-append (w ++ (9 ∷ decimal n) ++ (9 ∷ r)) (10 ∷ []))
+
+pub refused-length : (number place : ℕ) → number < 10000000 → place < 10000000 → length (refusedLine number place) ≤ 24
+refused-length number place h k =
+    omega (arith, length-line (ascii "refused") number (decimal place), seven-digits number h, seven-digits place k)
+
+word-length : (o : Outcome) → length (word o) ≤ 8
+word-length Outcome.finished = omega arith
+word-length Outcome.spent = omega arith
+word-length Outcome.no-room = omega arith
+
+below : (n : ℕ) → List·Memᴰ n (1 ∷ 2 ∷ 3 ∷ 4 ∷ 5 ∷ 6 ∷ 7 ∷ []) → n < 10
+below n m = go (1 ∷ 2 ∷ 3 ∷ 4 ∷ 5 ∷ 6 ∷ 7 ∷ []) (omega arith) m
+  where
+    Small : List ℕ → Type 0
+    Small [] = Unit
+    Small (k ∷ ks) = (k < 10) × Small ks
+
+    go : (numbers : List ℕ) → Small numbers → List·Memᴰ n numbers → n < 10
+    go [] s m = absurd (elim m [ ])
+    go (k ∷ ks) s (List·Memᴰ·head e) = omega (arith, e, s .0)
+    go (k ∷ ks) s (List·Memᴰ·tail m) = go ks (s .1) m
+
+-- the line of a call of finishing
+call-length : {area work : List ℕ} {len fuel : ℕ} {x : After} → Call area len work fuel x → length (shownRun x) ≤ 16402
+call-length (Call.refused {number} {place} found) =
+    omega (arith, refused-length number place (omega (arith, below number (found .listed))) (omega (arith, found .within)))
+call-length {area = area} {len = len} {fuel = fuel} (Call.made t admits) =
+    let r = run fuel (length area) t in
+    let held = admits .held in
+    let fits : size t ≤ length area = omega (arith, held .within, length-text t, ap length (held .written), length-take len area) in
+    let last = size (reached t r) in
+    let shown = take last (holding (reached t r) area) in
+    omega (
+      arith,
+      length-line (word (outcome r)) (count r) shown,
+      word-length (outcome r),
+      seven-digits (count r) (omega (arith, count-fuel fuel (length area) t, admits .fuelled)),
+      length-take last (holding (reached t r) area),
+      reached-fits fuel (length area) t fits,
+      admits .areas .short,
+    )
+
+request-length : (o : Option Request) → length (requestLine o) ≤ 16402
+request-length none = omega (arith, refused-length 19 0 (omega arith) (omega arith))
+request-length (some (Request.request fuel area term)) = call-length (call (areaWith area term) (length term) (zeros area) fuel)
+
+pub program-length : (input : List ℕ) → length (finishProgram input) ≤ 16402
+unfolding finishProgram
+program-length input = request-length (requestOf input)
+
+-- where a line has room, the bytes in front of the answer are the line
+pub line-whole : (line out : List ℕ) → length line ≤ length out → (take (behind 0 line out) (put 0 line out) ≡ line) × (behind 0 line out ≡ length line)
+line-whole line out h =
+    let fits : 0 + length line ≤ length out = omega arith in
+    let end : behind 0 line out ≡ length line = omega (arith, behind-fits 0 line out fits) in (
+      ap (λ (n : ℕ). take n (put 0 line out)) end
+          ∙ ap (take (length line)) (put-fits 0 line out fits)
+          ∙ take-at line (drop (0 + length line) out) (length line) refl,
+      end,
+    )
