@@ -1,7 +1,8 @@
 -- The demands hold: each by the cases of a call, which `Calls` of each operation's crate has. Assumes nothing.
 use Prim.Native.Nat.{ℕ, _≤_, _<_}
-use mathlib.Core.Path.{_≡_, refl, sym, _∙_, ap, subst, subst₂}
-use mathlib.Core.Logic.{_↔_}
+use mathlib.Core.Path.{_≡_, refl, sym, _∙_, ap, ap₂, subst, subst₂}
+use mathlib.Core.Bool.{Bool}
+use mathlib.Core.Logic.{_↔_, _⊎_, inl, inr, ⊎-elim}
 use mathlib.Core.List.{List, [], _∷_, List·Memᴰ}
 use lib.ListN.{length, take}
 use lib.Seq.{take-at}
@@ -26,7 +27,10 @@ use Rattle.comparing.specs.Comparing as comparing
 use Rattle.comparing.proofs.Calls as compare
 use Rattle.reading.proofs.Numbers.{reading-refused}
 use Rattle.checking.specs.Line.{Line}
+use Rattle.slices.specs.Split.{lines}
+use Rattle.checking.specs.Checking.{checkingOf}
 use Rattle.checking.proofs.Listed.{checking-refused}
+use Rattle.matching.specs.Matching.{lastLine, sameClaim, afterBoth, matchingOf}
 use Rattle.checking.specs.Accepted.{claimOf}
 use Rattle.checking.proofs.Files.{accepted-exactly, complete, claim-unique, accepted-derivable, derivable-listed}
 use Rattle.promises.specs.Demands.{Refusals, SteppedTo, RanTo, Steps, Results, Files, Types}
@@ -84,6 +88,26 @@ compare-refused :
     List·Memᴰ number (1 ∷ 2 ∷ 3 ∷ 4 ∷ 5 ∷ 6 ∷ 7 ∷ []) × (first′ ≡ first) × (second′ ≡ second) × (work′ ≡ work)
 compare-refused (compare.Call.refused m) = (m .listed, refl, refl, refl)
 
+-- a refusal of matching is checking's, of the first file or of the second
+match-refused :
+    (first second : List ℕ) (number line : ℕ) →
+    matchingOf first second ≡ Reply.refused number line → (checkingOf first ≡ Reply.refused number line) ⊎ (checkingOf second ≡ Reply.refused number line)
+unfolding matchingOf
+match-refused first second number line = go (checkingOf first) (checkingOf second) (sameClaim (lastLine (lines first)) (lastLine (lines second)))
+  where
+    go :
+        (x y : Reply ℕ) (verdict : Bool) → afterBoth x y verdict ≡ Reply.refused number line →
+        (x ≡ Reply.refused number line) ⊎ (y ≡ Reply.refused number line)
+    go (Reply.refused n l) y verdict e =
+        let same-number : n ≡ number = cc in
+        let same-line : l ≡ line = cc in
+        inl (ap₂ Reply.refused same-number same-line)
+    go (Reply.answered m) (Reply.refused n l) verdict e =
+        let same-number : n ≡ number = cc in
+        let same-line : l ≡ line = cc in
+        inr (ap₂ Reply.refused same-number same-line)
+    go (Reply.answered m) (Reply.answered k) verdict e = let z : _≡_ {A = ℕ} 0 1 = cc in absurd (omega arith)
+
 -- Demand 1
 pub refusals : Refusals
 refusals =
@@ -95,6 +119,10 @@ refusals =
           compare-refused (subst (compare.Call first len₁ second len₂ work fuel) e (compare.call first len₁ second len₂ work fuel));
       of-reading = λ bytes number place e. let found = reading-refused bytes number place e in (found .listed, found .within);
       of-checking = λ file number line e. let found = checking-refused file number line e in (found .listed, found .within);
+      of-matching =
+          λ first second number line e.
+          let found = ⊎-elim (checking-refused first number line) (checking-refused second number line) (match-refused first second number line e) in
+          (found .listed, found .within);
     }
 
 -- Demand 2, first half

@@ -21,6 +21,7 @@ use Rattle.finishing.specs.Finishing as finishing
 use Rattle.comparing.specs.Comparing as comparing
 use Rattle.checking.specs.Line.{Line, fileText}
 use Rattle.checking.specs.Checking.{checkingOf}
+use Rattle.matching.specs.Matching.{matchingOf}
 use Rattle.checking.specs.Accepted.{LinesFollow, Accepted, claimOf, Claims}
 
 -- Demand 1: "gets a reply that document 01 lists .. a refused call names its number and changes no lent byte."
@@ -44,6 +45,10 @@ pub record Refusals : Type 0 where
   pub of-checking :
       (file : List ℕ) (number line : ℕ) →
       checkingOf file ≡ Reply.refused number line →
+      List·Memᴰ number (10 ∷ 11 ∷ 12 ∷ 13 ∷ 14 ∷ 15 ∷ 16 ∷ 17 ∷ 18 ∷ []) × (line ≤ 1024)
+  pub of-matching :
+      (first second : List ℕ) (number line : ℕ) →
+      matchingOf first second ≡ Reply.refused number line →
       List·Memᴰ number (10 ∷ 11 ∷ 12 ∷ 13 ∷ 14 ∷ 15 ∷ 16 ∷ 17 ∷ 18 ∷ []) × (line ≤ 1024)
 
 -- the step of stepping: the one that the rules and the order name, and what the areas hold after it
