@@ -17,12 +17,14 @@ use Rattle.slices.specs.Put.{put, behind}
 use Rattle.slices.specs.Numeral.{decimal}
 use Rattle.slices.proofs.Put.{put-fits, behind-fits}
 use Rattle.slices.proofs.Decimal.{decimal-tenth, decimal-digit}
+use Rattle.reading.specs.Reply.{Reply}
 use Rattle.stepping.specs.Areas.{holding}
 use Rattle.finishing.specs.Finishing.{After, finishingOf}
 use Rattle.finishing.proofs.Calls.{Call, call}
 use Rattle.finish_line.specs.Printed.{lineOf}
+use Rattle.finish_line.specs.Fields.{countOf}
 use Rattle.finish_line.specs.Request.{Request, requestOf}
-use Rattle.answering.specs.Shown.{word, refusedLine, shownRun}
+use Rattle.answering.specs.Shown.{word, refusedLine, shownRun, shownCheck}
 use Rattle.answering.specs.Program.{areaWith, requestLine, finishProgram}
 use Rattle.answering.proofs.Zeros.{zeros}
 
@@ -59,6 +61,20 @@ pub refused-length : (number place : ℕ) → number < 10000000 → place < 1000
 refused-length number place h k =
     omega (arith, length-line (ascii "refused") number (decimal place), seven-digits number h, seven-digits place k)
 
+pub accepted-length : (lines : ℕ) → lines < 10000000 → length (countOf (ascii "accepted") lines) ≤ 17
+accepted-length lines h =
+    let w = ascii "accepted" in
+    omega (arith, length-append w (9 ∷ decimal lines), length-append (w ++ (9 ∷ decimal lines)) (10 ∷ []), seven-digits lines h)
+
+-- a checking reply whose numbers have at most seven digits
+abbrev pub Small : Reply ℕ → Type 0
+Small (Reply.refused number line) = (number < 10000000) × (line < 10000000)
+Small (Reply.answered lines) = lines < 10000000
+
+pub check-length : (reply : Reply ℕ) → Small reply → length (shownCheck reply) ≤ 24
+check-length (Reply.refused number line) (h, k) = refused-length number line h k
+check-length (Reply.answered lines) h = omega (arith, accepted-length lines h)
+
 word-length : (o : Outcome) → length (word o) ≤ 8
 word-length Outcome.finished = omega arith
 word-length Outcome.spent = omega arith
@@ -67,11 +83,11 @@ word-length Outcome.no-room = omega arith
 below : (n : ℕ) → List·Memᴰ n (1 ∷ 2 ∷ 3 ∷ 4 ∷ 5 ∷ 6 ∷ 7 ∷ []) → n < 10
 below n m = go (1 ∷ 2 ∷ 3 ∷ 4 ∷ 5 ∷ 6 ∷ 7 ∷ []) (omega arith) m
   where
-    Small : List ℕ → Type 0
-    Small [] = Unit
-    Small (k ∷ ks) = (k < 10) × Small ks
+    Low : List ℕ → Type 0
+    Low [] = Unit
+    Low (k ∷ ks) = (k < 10) × Low ks
 
-    go : (numbers : List ℕ) → Small numbers → List·Memᴰ n numbers → n < 10
+    go : (numbers : List ℕ) → Low numbers → List·Memᴰ n numbers → n < 10
     go [] s m = absurd (elim m [ ])
     go (k ∷ ks) s (List·Memᴰ·head e) = omega (arith, e, s .0)
     go (k ∷ ks) s (List·Memᴰ·tail m) = go ks (s .1) m

@@ -3,5 +3,6 @@ pub mod Requests
 pub mod Ranges
 pub mod Caps
 pub mod Zeros
-pub mod Programs
 pub mod Lengths
+pub mod Verdicts
+pub mod Programs

@@ -9,6 +9,7 @@ use mathlib.Core.Option.{Option, none, some}
 use borrow.Author.Tests.{lt-ltb}
 use lib.ListN.{length, take, length-take}
 use lib.Seq.{take-all}
+use Rattle.slices.specs.Put.{put, behind}
 use Rattle.reading.specs.Reply.{Reply}
 use Rattle.checking.specs.Checking.{checkingOf}
 use Rattle.finishing.specs.Finishing.{finishingOf}
@@ -24,6 +25,8 @@ use Rattle.answering.specs.Answer.{printedRun}
 use Rattle.answering.proofs.Ranges.{Ranged, ranged}
 use Rattle.answering.proofs.Caps.{capped}
 use Rattle.answering.proofs.Zeros.{zeros, length-zeros, take-zeros, kept-area, length-area}
+use Rattle.answering.proofs.Lengths.{program-length, line-whole}
+use Rattle.answering.proofs.Verdicts.{check-program-length}
 
 module _ (n m : ℕ) (room : 16384 ≤ n) (work-room : 16384 ≤ m) where
   -- what is printed for the line's answer is what the request says
@@ -45,6 +48,18 @@ module _ (n m : ℕ) (room : 16384 ≤ n) (work-room : 16384 ≤ m) where
   finish-prints chunks =
       answered (requestOf (inputOf chunks)) (askedOf (after (zeros n) chunks .line)) (after (zeros n) chunks .buffer) (ranged (inputOf chunks)) (line-answers (zeros n) chunks)
 
+  -- the line that `answer_run` prints, once the input was fed
+  abbrev pub printed : List (List ℕ) → List ℕ
+  printed chunks = printedRun (askedOf (after (zeros n) chunks .line)) (after (zeros n) chunks .buffer) (zeros m)
+
+  -- so the bytes in front of its answer are the program's line, where `out` has 16,402 bytes or more
+  pub finish-writes :
+      (chunks : List (List ℕ)) (out : List ℕ) → 16402 ≤ length out →
+      take (behind 0 (printed chunks) out) (put 0 (printed chunks) out) ≡ finishProgram (inputOf chunks)
+  finish-writes chunks out h =
+      let prints : printed chunks ≡ finishProgram (inputOf chunks) = finish-prints chunks in
+      line-whole (printed chunks) out (omega (arith, ap length prints, program-length (inputOf chunks))) .0 ∙ prints
+
 over-long : (file : List ℕ) → 65536 < length file → checkingOf file ≡ Reply.refused 10 0
 unfolding checkingOf
 over-long file h = rw (lt-ltb _ _ h)
@@ -57,3 +72,10 @@ check-front file = go (decLe (length file) 65537)
     go : Dec (length file ≤ 65537) → shownCheck (checkingOf (take 65537 file)) ≡ shownCheck (checkingOf file)
     go (yes h) = ap (λ (f : List ℕ). shownCheck (checkingOf f)) (take-all 65537 file h)
     go (no h) = ap shownCheck (over-long (take 65537 file) (omega (arith, length-take 65537 file)) ∙ sym (over-long file (omega arith)))
+
+-- so the bytes in front of `answer_check`'s answer are the program's line, where `out` has 24 bytes or more
+pub check-writes :
+    (file out : List ℕ) → 24 ≤ length out →
+    take (behind 0 (checkProgram (take 65537 file)) out) (put 0 (checkProgram (take 65537 file)) out) ≡ checkProgram file
+check-writes file out h =
+    line-whole (checkProgram (take 65537 file)) out (omega (arith, check-program-length (take 65537 file))) .0 ∙ check-front file

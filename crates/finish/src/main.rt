@@ -1,8 +1,12 @@
 // The finishing program: one line from standard input, one line to standard output.
 use finish_line::Line;
+ghost use Rattle.finish_line.specs.Fed.{state, startLine};
+ghost use Rattle.finish.specs.Fed.{FedFrom};
 
 // Reads a chunk and feeds it; an input that has ended, or cannot be read, leaves `more` false.
-fn feed_some(line: Line, term: &mut [u8], more: &mut bool) -> Line {
+fn feed_some(line: Line, term: &mut [u8], more: &mut bool) -> Line
+    ensures { λ r. ⌜ FedFrom (state line (now (term .entry))) (state r (now (term .exit))) ⌝ }
+{
     let mut chunk = [0u8; 4096];
     let got = libc::read(0, &mut chunk);
     let n = io::count(got, &chunk);
@@ -11,7 +15,9 @@ fn feed_some(line: Line, term: &mut [u8], more: &mut bool) -> Line {
 }
 
 // Feeds all of standard input. A proved loop has to end, so the turns count down from a number that no run uses up.
-fn feed_all(term: &mut [u8]) -> Line {
+fn feed_all(term: &mut [u8]) -> Line
+    ensures { λ r. ⌜ FedFrom (state startLine (now (term .entry))) (state r (now (term .exit))) ⌝ }
+{
     let mut line = finish_line::start();
     let mut more = true;
     let mut turns = u64::MAX;

@@ -1,0 +1,48 @@
+-- `finish::feed_some` meets its contract: one chunk was fed, perhaps an empty one. Assumes nothing.
+use lib.ListN.{take}
+use Rattle.finish.proofs.Feeding.{fed-once}
+use borrow.Author.Needs.{needs}
+use Rattle.finish.proofs.feed_some.Statement.{statement}
+use Rattle.finish.proofs.feed_some.Tie as tie
+
+slice-aggregate-read : tie.Need-slice-aggregate-read
+slice-aggregate-read c = search needs
+
+read-requires : tie.Need-read-requires
+read-requires c κs = search needs
+
+slice-aggregate-count : tie.Need-slice-aggregate-count
+slice-aggregate-count c = search needs
+
+count-requires : tie.Need-count-requires
+count-requires c κs = search needs
+
+array-share-prefix-chunk : tie.Need-array-share-prefix-chunk
+array-share-prefix-chunk c = search needs
+
+slice-aggregate-feed : tie.Need-slice-aggregate-feed
+slice-aggregate-feed c = search needs
+
+feed-requires : tie.Need-feed-requires
+feed-requires c κs = search needs
+
+same-length : tie.Need-same-length
+same-length c = search needs
+
+returns : tie.Need-returns
+returns c =
+    fed-once _ _ (take (c .before .before .before .before .before .count .result) (c .before .before .before .before .before .before .before .before .read .last .1 .0)) (c .before .before .feed .ensures)
+
+pub feed-some-spec : {M : Type 1} → statement M
+feed-some-spec =
+    tie.close
+    (tie.spec
+    slice-aggregate-read
+    read-requires
+    slice-aggregate-count
+    count-requires
+    array-share-prefix-chunk
+    slice-aggregate-feed
+    feed-requires
+    same-length
+    returns)
