@@ -27,11 +27,7 @@ decode-encode f r = λ i. record { code = code i; value = value i; size = size i
 -- cutting loses nothing in range
 pub packed-encode : (f : Fields) → InRange f → packed f ≡ encode f
 unfolding encode
-packed-encode f r =
-    let code : f .code % 256 ≡ f .code = omega (arith, r .code-fits) in
-    let value : f .value % 16777216 ≡ f .value = omega (arith, r .value-fits) in
-    let size : f .size % 4294967296 ≡ f .size = omega (arith, r .size-fits) in
-    rw (code, value, size)
+packed-encode f r = omega (arith, r .code-fits, r .value-fits, r .size-fits)
 
 -- a refusal that is passed on unaltered has reading's number
 pub step-refusal : (r : Reply ℕ) → refusalFields r ≡ stepFields (refusal r)
