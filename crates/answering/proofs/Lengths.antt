@@ -12,7 +12,7 @@ use Rattle.calculus.specs.Term.{Term, size}
 use Rattle.calculus.specs.Run.{Outcome, run, outcome, count, reached}
 use Rattle.calculus.proofs.Runs.{count-fuel, reached-fits}
 use Rattle.calculus.proofs.PrefixCode.{length-text}
-use Rattle.calculus.specs.Examples.{ascii}
+use Rattle.calculus.specs.Ascii.{ascii}
 use Rattle.slices.specs.Put.{put, behind}
 use Rattle.slices.specs.Numeral.{decimal}
 use Rattle.slices.proofs.Put.{put-fits, behind-fits}

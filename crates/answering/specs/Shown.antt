@@ -4,7 +4,7 @@ use Prim.Native.Nat.{ℕ}
 use mathlib.Core.List.{List}
 use lib.ListN.{take}
 use Rattle.calculus.specs.Run.{Outcome}
-use Rattle.calculus.specs.Examples.{ascii}
+use Rattle.calculus.specs.Ascii.{ascii}
 use Rattle.reading.specs.Reply.{Reply}
 use Rattle.finishing.specs.Finishing.{Ran, After}
 use Rattle.finish_line.specs.Printed.{lineOf, numbersOf}

@@ -10,7 +10,7 @@ ghost use Prim.Native.Nat.{ℕ, min};
 ghost use mathlib.Core.List.{_++_};
 ghost use lib.ListN.{length, drop};
 ghost use Rattle.slices.specs.Put.{put, behind};
-ghost use Rattle.reading.specs.Reading.{refusal};
+ghost use Rattle.reading.specs.Reply.{passedOn};
 ghost use Rattle.reading.specs.Answer.{answerOf as readingAnswer};
 ghost use Rattle.finishing.specs.Answer.{replyOf, ranOf};
 ghost use Rattle.checking.specs.Answer.{answerOf as checkingAnswer};
@@ -135,10 +135,10 @@ fn admittance_of(admission: Admission) -> Admittance
 
 // Document 01's number and place for each of reading's refusals.
 fn unread(reading: Reading) -> Admittance
-    ensures { λ r. ⌜ admittanceOf r ≡ refusal (readingAnswer reading) ⌝ }
+    ensures { λ r. ⌜ admittanceOf r ≡ passedOn (readingAnswer reading) ⌝ }
 {
     match reading {
-        Reading::Whole(size) => Admittance::Refused(0, size),
+        Reading::Whole(_) => Admittance::Refused(0, 0),
         Reading::NoLetter(place) => Admittance::Refused(5, place),
         Reading::NotWhole(place) => Admittance::Refused(6, place),
         Reading::Beyond(place) => Admittance::Refused(7, place),

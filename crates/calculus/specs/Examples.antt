@@ -1,19 +1,14 @@
 -- Document 01's proved examples 1 to 8, as rows of a table. `proofs/Examples.antt` has the proof that covers it.
 -- "Fuel and area are ample unless given."
 use Prim.Native.Nat.{ℕ}
-use Prim.Native.Char.{code}
 use Prim.Native.String.{String}
 use mathlib.Core.List.{List, [], _∷_}
 use mathlib.Core.Option.{Option, none, some}
 use lib.ListN.{length}
+use Rattle.calculus.specs.Ascii.{ascii}
 use Rattle.calculus.specs.Term.{Term, text}
 use Rattle.calculus.specs.Parse.{termOf}
 use Rattle.calculus.specs.Run.{Outcome, Run, run, outcome, count, rules, reached}
-
--- the bytes of a quoted text in ASCII
-abbrev pub ascii : String → List ℕ
-ascii String.[] = []
-ascii (String._∷_ c s) = code c ∷ ascii s
 
 -- what a row says of a run: its outcome, its count, the rules used in order, and the text of the term reached
 pub data Played : Type 0 where

@@ -10,4 +10,6 @@ pub mod Run
 pub mod Types
 pub mod Typing
 pub mod Derivation
+pub mod Limits
+pub mod Ascii
 pub mod Examples

@@ -1,5 +1,5 @@
--- What checking answers: its refusals have the numbers 10 to 18 and a line up to 1,024, and it accepts at most 1,024 lines. Assumes nothing.
-use Prim.Native.Nat.{ℕ, suc, _+_, _≤_}
+-- What checking refuses: by 10 to 13 at line 0, by 14 to 18 at a line from 1 to the number of lines. Assumes nothing.
+use Prim.Native.Nat.{ℕ, suc, _+_, _≤_, _<_, min}
 use native.Mathlib.Omega.{arith}
 use mathlib.Core.Path.{_≡_, refl, subst}
 use mathlib.Core.Bool.{Bool, true, false, not}
@@ -9,9 +9,9 @@ use borrow.Author.Tests.{ltb-false}
 use lib.Dec.{ltb, eqb}
 use lib.ListN.{length}
 use Rattle.slices.specs.Split.{lines, fields, lastByte}
-use Rattle.reading.specs.Reply.{Reply, refuseIf}
-use Rattle.reading.proofs.Numbers.{Listed}
+use Rattle.reading.specs.Reply.{Reply, refuseIf, Refuses}
 use Rattle.reading.proofs.Refusing.{passed, passed-on, refused-by}
+use Rattle.calculus.specs.Limits.{lineLimit}
 use Rattle.calculus.specs.Typing.{Judgement, Name}
 use Rattle.checking.specs.Line.{judgementOf, nameOf, premiseOf}
 use Rattle.checking.specs.Instance.{Premises, isInstance}
@@ -64,42 +64,52 @@ bad-line earlier (a ∷ b ∷ c ∷ d ∷ e ∷ []) = List·Memᴰ·head refl
 bad-line earlier (context ∷ term ∷ type ∷ name ∷ first ∷ second ∷ []) = bad-15 earlier (judgementOf context term type) name first second
 bad-line earlier (a ∷ b ∷ c ∷ d ∷ e ∷ f ∷ g ∷ more) = List·Memᴰ·head refl
 
--- a reply whose line, or number of lines, is at most so much
-abbrev Within : (most : ℕ) → Reply ℕ → Type 0
-Within most (Reply.refused number line) = Listed lineNumbers most number line
-Within most (Reply.answered n) = n ≤ most
+-- a reply whose line is behind the first n and at most so much
+abbrev Within : (n most : ℕ) → Reply ℕ → Type 0
+Within n most (Reply.refused number line) = List·Memᴰ number lineNumbers × (n < line) × (line ≤ most)
+Within n most (Reply.answered m) = Unit
 
-lines-within : (n most : ℕ) (earlier : List Judgement) (ls : List (List ℕ)) → n + length ls ≤ most → Within most (checkLines n earlier ls)
-lines-within n most earlier [] h = omega arith
+within-less : (n most : ℕ) (r : Reply ℕ) → Within (suc n) most r → Within n most r
+within-less n most (Reply.refused number line) found = (found .0, omega (arith, found .1), found .2)
+within-less n most (Reply.answered m) found = tt
+
+lines-within : (n most : ℕ) (earlier : List Judgement) (ls : List (List ℕ)) → n + length ls ≤ most → Within n most (checkLines n earlier ls)
+lines-within n most earlier [] h = tt
 lines-within n most earlier (l ∷ ls) h =
     go (foundFields earlier (fields l)) (bad-line earlier (fields l)) (λ j. lines-within (suc n) most (earlier ++ (j ∷ [])) ls (omega arith))
   where
     go :
-        (found : Found) → Bad found → ((j : Judgement) → Within most (checkLines (suc n) (earlier ++ (j ∷ [])) ls)) →
-        Within most (onward n found (λ j. checkLines (suc n) (earlier ++ (j ∷ [])) ls))
-    go (Found.bad number) b rest = record { listed = b; within = omega arith }
-    go (Found.good j) b rest = rest j
+        (found : Found) → Bad found → ((j : Judgement) → Within (suc n) most (checkLines (suc n) (earlier ++ (j ∷ [])) ls)) →
+        Within n most (onward n found (λ j. checkLines (suc n) (earlier ++ (j ∷ [])) ls))
+    go (Found.bad number) b rest = (b, omega arith, omega arith)
+    go (Found.good j) b rest = within-less n most (checkLines (suc n) (earlier ++ (j ∷ [])) ls) (rest j)
 
--- the numbers that checking refuses by
-abbrev pub checkNumbers : List ℕ
-checkNumbers = 10 ∷ 11 ∷ 12 ∷ 13 ∷ lineNumbers
+-- the numbers of a file that is no lines within the limits
+abbrev pub fileNumbers : List ℕ
+fileNumbers = 10 ∷ 11 ∷ 12 ∷ 13 ∷ []
 
--- what checking refuses is listed
-pub checking-refused : (file : List ℕ) (n p : ℕ) → checkingOf file ≡ Reply.refused n p → Listed checkNumbers 1024 n p
+-- what checking refuses is listed, and a line of the file
+pub checking-refused :
+    (file : List ℕ) (n p : ℕ) → checkingOf file ≡ Reply.refused n p → Refuses fileNumbers lineNumbers 1 (min lineLimit (length (lines file))) n p
 unfolding checkingOf
 checking-refused file n p =
-    refused-by (ltb 65536 (length file)) 10 n p _ (11 ∷ 12 ∷ 13 ∷ lineNumbers) 1024
+    let most = min lineLimit (length (lines file)) in
+    refused-by (ltb 65536 (length file)) 10 n p _ (11 ∷ 12 ∷ 13 ∷ []) lineNumbers 1 most
     (λ short.
-    refused-by (eqb (length file) 0) 11 n p _ (12 ∷ 13 ∷ lineNumbers) 1024
+    refused-by (eqb (length file) 0) 11 n p _ (12 ∷ 13 ∷ []) lineNumbers 1 most
     (λ some-byte.
-    refused-by (not (eqb (lastByte file) 10)) 12 n p _ (13 ∷ lineNumbers) 1024
+    refused-by (not (eqb (lastByte file) 10)) 12 n p _ (13 ∷ []) lineNumbers 1 most
     (λ ended.
-    refused-by (ltb 1024 (length (lines file))) 13 n p (checkLines 0 [] (lines file)) lineNumbers 1024
-    (λ few e. go (checkLines 0 [] (lines file)) (lines-within 0 1024 [] (lines file) (omega (arith, ltb-false 1024 (length (lines file)) few))) e))))
+    refused-by (ltb 1024 (length (lines file))) 13 n p (checkLines 0 [] (lines file)) [] lineNumbers 1 most
+    (λ few e.
+    let within : 0 + length (lines file) ≤ most = omega (arith, ltb-false 1024 (length (lines file)) few) in
+    go most (checkLines 0 [] (lines file)) (lines-within 0 most [] (lines file) within) e))))
   where
-    go : (r : Reply ℕ) → Within 1024 r → r ≡ Reply.refused n p → Listed lineNumbers 1024 n p
-    go (Reply.refused m q) found e =
+    go : (most : ℕ) (r : Reply ℕ) → Within 0 most r → r ≡ Reply.refused n p → Refuses [] lineNumbers 1 most n p
+    go most (Reply.refused m q) found e =
         let same : m ≡ n = cc in
         let line : q ≡ p = cc in
-        record { listed = subst (λ (k : ℕ). List·Memᴰ k lineNumbers) same (found .listed); within = omega (arith, found .within) }
-    go (Reply.answered m) few e = let z : _≡_ {A = ℕ} 0 1 = cc in absurd (omega arith)
+        let low : 1 ≤ p = omega (arith, found .1, line) in
+        let high = found .2 in
+        Refuses.at-place (subst (λ (k : ℕ). List·Memᴰ k lineNumbers) same (found .0)) low (subst (λ (k : ℕ). k ≤ most) line high)
+    go most (Reply.answered m) few e = let z : _≡_ {A = ℕ} 0 1 = cc in absurd (omega arith)

@@ -1,4 +1,4 @@
--- Document 01's numbers and values for each case of checking's answer.
+-- The number and the value of each case of checking's answer (REQUIREMENTS, Checking).
 use Prim.Native.Nat.{ℕ}
 use Rattle.reading.specs.Reply.{Reply}
 use Rattle.checking.specs.declared.Checking.{Checking}

@@ -9,6 +9,7 @@ ghost use mathlib.Core.Path.{_≡_};
 ghost use Prim.Native.Nat.{_≤_};
 ghost use mathlib.Core.List.{[]};
 ghost use lib.ListN.{length};
+ghost use Rattle.reading.specs.Reply.{numberIn, placeIn};
 ghost use Rattle.slices.specs.Split.{lines, lastByte};
 ghost use Rattle.checking.specs.Checking.{checkLines, checkingOf};
 ghost use Rattle.checking.specs.Answer.{answerOf};
@@ -40,11 +41,47 @@ pub enum Checking {
     Accepted(usize),
 }
 
+// The number of a refusal, 0 of an accepted file.
+pub fn number(answer: Checking) -> u64
+    ensures { λ r. ⌜ r ≡ numberIn (answerOf answer) ⌝ }
+{
+    match answer {
+        Checking::FileTooLong => 10,
+        Checking::FileEmpty => 11,
+        Checking::NoLineEnd => 12,
+        Checking::TooManyLines => 13,
+        Checking::NotSixFields(_) => 14,
+        Checking::Malformed(_) => 15,
+        Checking::UnknownRule(_) => 16,
+        Checking::BadPremise(_) => 17,
+        Checking::NoInstance(_) => 18,
+        Checking::Accepted(_) => 0,
+    }
+}
+
+// The line of a refusal, 0 of an accepted file.
+pub fn place(answer: Checking) -> usize
+    ensures { λ r. ⌜ r ≡ placeIn (answerOf answer) ⌝ }
+{
+    match answer {
+        Checking::FileTooLong => 0,
+        Checking::FileEmpty => 0,
+        Checking::NoLineEnd => 0,
+        Checking::TooManyLines => 0,
+        Checking::NotSixFields(line) => line,
+        Checking::Malformed(line) => line,
+        Checking::UnknownRule(line) => line,
+        Checking::BadPremise(line) => line,
+        Checking::NoInstance(line) => line,
+        Checking::Accepted(_) => 0,
+    }
+}
+
 // Checks a derivation file of any bytes.
 pub fn check_derivation(file: &[u8]) -> Checking
     ensures { λ r. ⌜ answerOf r ≡ checkingOf (now (file .entry)) ⌝ }
 {
-    if 65536 < file.len() {
+    if calculus::FILE_LIMIT < file.len() {
         return Checking::FileTooLong;
     }
     if file.len() == 0 {
@@ -53,7 +90,7 @@ pub fn check_derivation(file: &[u8]) -> Checking
     if slices::byte_at(file, file.len() - 1) != 10 {
         return Checking::NoLineEnd;
     }
-    if 1024 < line_count(file) {
+    if calculus::LINE_LIMIT < line_count(file) {
         return Checking::TooManyLines;
     }
     check_lines(file)
@@ -79,7 +116,7 @@ fn check_lines(file: &[u8]) -> Checking
     requires { ⌜ (lastByte (now file) ≡ 10) × (length (lines (now file)) ≤ 1024) ⌝ }
     ensures { λ r. ⌜ answerOf r ≡ checkLines 0 [] (lines (now (file .entry))) ⌝ }
 {
-    let mut starts = [0usize; 1024];
+    let mut starts = [0usize; calculus::LINE_LIMIT];
     let mut n: usize = 0;
     let mut at: usize = 0;
     while at < file.len() {

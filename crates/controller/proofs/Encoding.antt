@@ -3,8 +3,7 @@ use Prim.Native.Nat.{ℕ, _+_, _*_, _/_, _%_, _<_}
 use native.Mathlib.Omega.{arith}
 use mathlib.Core.Path.{_≡_, refl}
 use Rattle.controller.specs.Encoding.{Fields, fields, encode, packed, decode, InRange, refusalFields, stepFields, finishFields}
-use Rattle.reading.specs.Reply.{Reply}
-use Rattle.reading.specs.Reading.{refusal}
+use Rattle.reading.specs.Reply.{Reply, passedOn}
 use Rattle.finishing.specs.Finishing.{Ran}
 
 -- what a caller reads off the number is what was put in
@@ -30,10 +29,10 @@ unfolding encode
 packed-encode f r = omega (arith, r .code-fits, r .value-fits, r .size-fits)
 
 -- a refusal that is passed on unaltered has reading's number
-pub step-refusal : (r : Reply ℕ) → refusalFields r ≡ stepFields (refusal r)
+pub step-refusal : (r : Reply ℕ) → refusalFields r ≡ stepFields (passedOn r)
 step-refusal (Reply.refused number place) = refl
 step-refusal (Reply.answered n) = refl
 
-pub finish-refusal : (r : Reply ℕ) (run : Ran) → refusalFields r ≡ finishFields (refusal r) run
+pub finish-refusal : (r : Reply ℕ) (run : Ran) → refusalFields r ≡ finishFields (passedOn r) run
 finish-refusal (Reply.refused number place) run = refl
 finish-refusal (Reply.answered n) run = refl

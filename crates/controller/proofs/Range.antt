@@ -11,15 +11,14 @@ use Rattle.calculus.specs.Order.{Step}
 use Rattle.calculus.specs.Run.{Outcome, run, outcome}
 use Rattle.calculus.proofs.Runs.{count-fuel, reached-fits}
 use Rattle.calculus.proofs.PrefixCode.{length-text}
-use Rattle.reading.specs.Reply.{Reply}
-use Rattle.reading.proofs.Numbers.{Listed}
+use Rattle.reading.specs.Reply.{Reply, Refuses}
 use Rattle.stepping.specs.Held.{Holds}
 use Rattle.stepping.specs.Stepping.{After, Stepped, steppingOf}
 use Rattle.stepping.proofs.Calls as step
 use Rattle.finishing.specs.Finishing as finishing
 use Rattle.finishing.proofs.Calls as finish
 use Rattle.checking.specs.Checking.{checkingOf}
-use Rattle.checking.proofs.Listed.{checkNumbers, checking-refused}
+use Rattle.checking.proofs.Listed.{checking-refused}
 use Rattle.checking.proofs.Files.{accepted-exactly}
 use Rattle.controller.specs.Encoding.{Fields, fields, packed, InRange, stepFields, outcomeCode, finishFields, checkFields, encode, Coded, codedStep, codedFinish}
 use Rattle.controller.proofs.Encoding.{packed-encode}
@@ -34,10 +33,14 @@ below [] b m = absurd (elim m [ ])
 below (k ∷ numbers) b (List·Memᴰ·head e) = omega (arith, e, b .0)
 below (k ∷ numbers) b (List·Memᴰ·tail m) = below numbers (b .1) m
 
--- a refusal by a small number within 16,384
-pub refused-range : (numbers : List ℕ) (n p : ℕ) → Below 256 numbers → Listed numbers 16384 n p → InRange (fields n p 0)
-refused-range numbers n p b found =
-    record { code-fits = below numbers b (found .listed); value-fits = omega (arith, found .within); size-fits = omega arith }
+-- a refusal by a small number within 16,777,216
+pub refused-range :
+    {plain placed : List ℕ} {least most n p : ℕ} →
+    Below 256 plain → Below 256 placed → most < 16777216 → Refuses plain placed least most n p → InRange (fields n p 0)
+refused-range {plain = plain} b c short (Refuses.at-zero m e) =
+    record { code-fits = below plain b m; value-fits = omega arith; size-fits = omega arith }
+refused-range {placed = placed} b c short (Refuses.at-place m low high) =
+    record { code-fits = below placed c m; value-fits = omega arith; size-fits = omega arith }
 
 rule-below : {n : ℕ} {t u : Term} → Rule n t u → n < 12
 rule-below Rule.rule-1 = omega arith
@@ -71,7 +74,7 @@ held-size area len t held = omega (arith, held .within, length-text t, ap length
 -- every answer of stepping is in range
 step-range : {area work : List ℕ} {len : ℕ} {reply : Reply Stepped} {area′ work′ : List ℕ} → step.Call area len work (After.after reply area′ work′) → InRange (stepFields reply)
 step-range (step.Call.refused found) =
-    refused-range (1 ∷ 2 ∷ 3 ∷ 5 ∷ 6 ∷ 7 ∷ []) _ _ (omega arith) found
+    refused-range (omega arith) (omega arith) (omega arith) found
 step-range {area = area} {len = len} (step.Call.made t areas held (step.Answers.normal n)) =
     record { code-fits = omega arith; value-fits = omega arith; size-fits = omega (arith, areas .short, held-size area len t held) }
 step-range {area = area} {len = len} (step.Call.made t areas held (step.Answers.no-room s larger)) =
@@ -95,7 +98,7 @@ coded-step area len work reply area′ work′ n e f =
 finish-range :
     {area work : List ℕ} {len fuel : ℕ} {reply : Reply Unit} {r : finishing.Ran} {area′ work′ : List ℕ} →
     finish.Call area len work fuel (finishing.After.after reply r area′ work′) → InRange (finishFields reply r)
-finish-range (finish.Call.refused found) = refused-range (1 ∷ 2 ∷ 3 ∷ 4 ∷ 5 ∷ 6 ∷ 7 ∷ []) _ _ (omega arith) found
+finish-range (finish.Call.refused found) = refused-range (omega arith) (omega arith) (omega arith) found
 finish-range {area = area} {fuel = fuel} (finish.Call.made t admits) =
     let r = run fuel (length area) t in
     let held = held-size area _ t (admits .held) in
@@ -122,8 +125,7 @@ coded-finish area len work fuel reply r area′ work′ n e f =
 -- every answer of checking is in range
 check-range : (file : List ℕ) (r : Reply ℕ) → checkingOf file ≡ r → InRange (checkFields r)
 check-range file (Reply.refused n p) e =
-    let found = checking-refused file n p e in
-    record { code-fits = below checkNumbers (omega arith) (found .listed); value-fits = omega (arith, found .within); size-fits = omega arith }
+    refused-range (omega arith) (omega arith) (omega arith) (checking-refused file n p e)
 check-range file (Reply.answered n) e =
     record { code-fits = omega arith; value-fits = omega (arith, accepted-exactly file n .0 e .few-lines); size-fits = omega arith }
 

@@ -29,7 +29,7 @@ decode n = fields (n % 256) (n / 256 % 16777216) (n / 4294967296)
 -- reading's refusal inside another operation
 abbrev pub refusalFields : Reply ℕ → Fields
 refusalFields (Reply.refused number place) = fields number place 0
-refusalFields (Reply.answered n) = fields 0 n 0
+refusalFields (Reply.answered n) = fields 0 0 0
 
 abbrev pub stepFields : Reply stepping.Stepped → Fields
 stepFields (Reply.refused number place) = fields number place 0

@@ -27,7 +27,7 @@ fn reading_number(reading: Reading) -> u64
     ensures { λ r. ⌜ r ≡ packed (refusalFields (readingAnswer reading)) ⌝ }
 {
     match reading {
-        Reading::Whole(size) => pack(0, size, 0),
+        Reading::Whole(_) => pack(0, 0, 0),
         Reading::NoLetter(place) => pack(5, place, 0),
         Reading::NotWhole(place) => pack(6, place, 0),
         Reading::Beyond(place) => pack(7, place, 0),

@@ -1,7 +1,7 @@
 -- The definitions make of each row of the table what document 01 says, by one computation. Assumes nothing.
 use mathlib.Core.Path.{_≡_, refl}
 use mathlib.Core.List.{map}
-use Rattle.calculus.specs.Examples.{ascii}
+use Rattle.calculus.specs.Ascii.{ascii}
 use Rattle.slices.specs.Numeral.{numberOf, decimalOf, numeral, decimal}
 use Rattle.finish_line.specs.Request.{requestOf}
 use Rattle.finish_line.specs.Edges.{Row, rows, Print, prints}

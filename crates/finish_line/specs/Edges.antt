@@ -5,7 +5,7 @@ use Prim.Native.Nat.{ℕ}
 use Prim.Native.String.{String}
 use mathlib.Core.List.{List, [], _∷_}
 use mathlib.Core.Option.{Option, none, some}
-use Rattle.calculus.specs.Examples.{ascii}
+use Rattle.calculus.specs.Ascii.{ascii}
 use Rattle.finish_line.specs.Request.{Request}
 use Rattle.finish_line.specs.Printed.{lineOf, numbersOf}
 use Rattle.finish_line.specs.Fields.{countOf}

@@ -13,8 +13,8 @@ use Rattle.calculus.proofs.PrefixCode.{termOf-text}
 use Rattle.reading.specs.declared.Reading.{Reading}
 use Rattle.reading.specs.declared.Reading.the-variants.{Whole, NoLetter, NotWhole, Beyond}
 use Rattle.reading.proofs.Reading.{the-type}
-use Rattle.reading.specs.Reply.{Reply}
-use Rattle.reading.specs.Reading.{readingOf, refusal, orRefusal, termRead}
+use Rattle.reading.specs.Reply.{Reply, passedOn}
+use Rattle.reading.specs.Reading.{readingOf, orRefusal, termRead}
 use Rattle.reading.specs.Answer.{answerOf as readingAnswer}
 use Rattle.reading.proofs.Whole.{whole-term, refused-none}
 use Rattle.finishing.specs.Finishing.{admitted, admission}
@@ -60,7 +60,7 @@ module _ (area : List ℕ) (len : ℕ) (work : List ℕ) (fuel : ℕ) where
           -- what is not whole is refused
           pub unread :
               (r : Reading) → readingAnswer r ≡ readingOf (take len area) → OneOf (1 ∷ 2 ∷ 3 ∷ []) (tagOf the-type r) →
-              refusal (readingAnswer r) ≡ admission (admitted area len work fuel)
+              passedOn (readingAnswer r) ≡ admission (admitted area len work fuel)
           unread (Whole n) e k = absurd (miss (1 ∷ 2 ∷ 3 ∷ []) 0 tt k)
           unread (NoLetter place) e k = reading-refused 5 place e
           unread (NotWhole place) e k = reading-refused 6 place e

@@ -10,8 +10,7 @@ use lib.ListN.{length, take, replicate}
 use Rattle.calculus.specs.Term.{Term, text, size}
 use Rattle.calculus.specs.Run.{Outcome, run, count, reached}
 use Rattle.calculus.proofs.Runs.{count-fuel}
-use Rattle.reading.specs.Reply.{Reply}
-use Rattle.reading.specs.Reading.{refusal}
+use Rattle.reading.specs.Reply.{Reply, passedOn}
 use Rattle.reading.specs.Answer.{answerOf as readingAnswer}
 use Rattle.stepping.specs.Areas.{holding, cleared}
 use Rattle.stepping.specs.Held.{Holds}
@@ -43,9 +42,9 @@ reply-refused LengthTooLong k = (3, 0, refl)
 reply-refused FuelTooHigh k = (4, 0, refl)
 reply-refused (Unread reading) k = go (readingAnswer reading)
   where
-    go : (r : Reply ℕ) → (n : ℕ) × (p : ℕ) × (refusal {X = Unit} r ≡ Reply.refused n p)
+    go : (r : Reply ℕ) → (n : ℕ) × (p : ℕ) × (passedOn {Y = Unit} r ≡ Reply.refused n p)
     go (Reply.refused n p) = (n, p, refl)
-    go (Reply.answered n) = (0, n, refl)
+    go (Reply.answered n) = (0, 0, refl)
 reply-refused Admitted k = absurd (miss (0 ∷ 1 ∷ 2 ∷ 3 ∷ 4 ∷ []) 5 tt k)
 
 -- the last is none

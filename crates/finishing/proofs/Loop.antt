@@ -10,8 +10,7 @@ use lib.ListN.{length, take}
 use Rattle.calculus.specs.Term.{Term, size}
 use Rattle.calculus.specs.Order.{Next, next}
 use Rattle.calculus.specs.Run.{Outcome, run, reached}
-use Rattle.reading.specs.Reply.{Reply}
-use Rattle.reading.specs.Reading.{refusal}
+use Rattle.reading.specs.Reply.{Reply, passedOn}
 use Rattle.reading.specs.Answer.{answerOf as readingAnswer}
 use Rattle.stepping.specs.Held.{Holds}
 use Rattle.stepping.specs.Stepping.{Stepped}
@@ -30,7 +29,7 @@ use Rattle.finishing.proofs.Lending.{held-size}
 
 module _ {area area′ : List ℕ} {t : Term} where
   -- it did not refuse
-  never : (r : Reply ℕ) → ¬ StepsOn area area′ t (refusal r)
+  never : (r : Reply ℕ) → ¬ StepsOn area area′ t (passedOn r)
   never (Reply.refused number place) s = elim s [ ]
   never (Reply.answered n) s = elim s [ ]
 

@@ -6,7 +6,7 @@ use mathlib.Core.Bool.{Bool, true, false, _&&_}
 use mathlib.Core.List.{List, [], _∷_}
 use types.Run.{OneOf, miss}
 use denote.Enum.Declared.{tagOf}
-use Rattle.reading.specs.Reply.{Reply}
+use Rattle.reading.specs.Reply.{Reply, passedOn}
 use Rattle.slices.specs.Same.{same}
 use Rattle.slices.specs.Split.{lines}
 use Rattle.checking.specs.Checking.{checkingOf}
@@ -15,7 +15,6 @@ use Rattle.checking.specs.declared.Checking.{Checking}
 use Rattle.checking.specs.declared.Checking.the-variants.{FileTooLong, FileEmpty, NoLineEnd, TooManyLines, NotSixFields, Malformed, UnknownRule, BadPremise, NoInstance, Accepted}
 use Rattle.checking.proofs.Checking.{the-type}
 use Rattle.matching.specs.Matching.{lastLine, contextField, typeField, sameClaim, afterBoth, matchingOf}
-use Rattle.matching.specs.Answer.{refusalOf}
 
 -- ---- two lines
 
@@ -56,11 +55,11 @@ module _ (first second : List ℕ) where
   -- the first file is refused
   pub first-refused :
       (found : Checking) → checking.answerOf found ≡ checkingOf first → OneOf (0 ∷ 1 ∷ 2 ∷ 3 ∷ 4 ∷ 5 ∷ 6 ∷ 7 ∷ 8 ∷ []) (tagOf the-type found) →
-      refusalOf (checking.answerOf found) ≡ matchingOf first second
+      passedOn (checking.answerOf found) ≡ matchingOf first second
   unfolding matchingOf
   first-refused found said k =
       let (number, line, e) = refused-reply found k in
-      ap refusalOf e ∙ sym (ap (λ (r : Reply ℕ). afterBoth r (checkingOf second) verdict) (sym said ∙ e))
+      ap passedOn e ∙ sym (ap (λ (r : Reply ℕ). afterBoth r (checkingOf second) verdict) (sym said ∙ e))
 
   module _ {found : Checking} {n : ℕ} (said : checking.answerOf found ≡ checkingOf first) (good : found ≡ Accepted n) where
     first-answered : checkingOf first ≡ Reply.answered n
@@ -69,11 +68,11 @@ module _ (first second : List ℕ) where
     -- the first is not, and the second is
     pub second-refused :
         (other : Checking) → checking.answerOf other ≡ checkingOf second → OneOf (0 ∷ 1 ∷ 2 ∷ 3 ∷ 4 ∷ 5 ∷ 6 ∷ 7 ∷ 8 ∷ []) (tagOf the-type other) →
-        refusalOf (checking.answerOf other) ≡ matchingOf first second
+        passedOn (checking.answerOf other) ≡ matchingOf first second
     unfolding matchingOf
     second-refused other is k =
         let (number, line, e) = refused-reply other k in
-        ap refusalOf e ∙ sym (ap₂ (λ (r s : Reply ℕ). afterBoth r s verdict) first-answered (sym is ∙ e))
+        ap passedOn e ∙ sym (ap₂ (λ (r s : Reply ℕ). afterBoth r s verdict) first-answered (sym is ∙ e))
 
     -- neither is
     pub both-answered :

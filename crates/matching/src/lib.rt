@@ -1,6 +1,7 @@
 // Matching the claims of two derivation files.
 use checking::Checking;
 ghost use mathlib.Core.Path.{_≡_};
+ghost use Rattle.reading.specs.Reply.{numberIn, placeIn};
 ghost use Rattle.slices.specs.Same.{same};
 ghost use Rattle.slices.specs.Split.{lines};
 ghost use Rattle.matching.specs.Matching.{lastLine, contextField, typeField, sameClaim, matchingOf};
@@ -15,6 +16,28 @@ pub enum Matching {
     Match,
     // They are not.
     NoMatch,
+}
+
+// The number of a refusal, 0 of a verdict.
+pub fn number(answer: Matching) -> u64
+    ensures { λ r. ⌜ r ≡ numberIn (answerOf answer) ⌝ }
+{
+    match answer {
+        Matching::Refused(found) => checking::number(found),
+        Matching::Match => 0,
+        Matching::NoMatch => 0,
+    }
+}
+
+// The line of a refusal, 0 of a verdict.
+pub fn place(answer: Matching) -> usize
+    ensures { λ r. ⌜ r ≡ placeIn (answerOf answer) ⌝ }
+{
+    match answer {
+        Matching::Refused(found) => checking::place(found),
+        Matching::Match => 0,
+        Matching::NoMatch => 0,
+    }
 }
 
 // Whether the last lines of two derivation files claim the same context and type.

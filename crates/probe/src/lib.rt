@@ -9,10 +9,11 @@ ghost use Rattle.reading.specs.Reading.{readingOf};
 ghost use Rattle.reading.specs.Answer.{answerOf as readingAnswer};
 ghost use Rattle.finishing.specs.Answer.{replyOf};
 ghost use Rattle.comparing.specs.Comparing.{comparingOf};
-ghost use Rattle.comparing.specs.Answer.{refusalOf, answerOf as comparingAnswer};
+ghost use Rattle.reading.specs.Reply.{passedOn};
+ghost use Rattle.comparing.specs.Answer.{answerOf as comparingAnswer};
 ghost use Rattle.checking.specs.Answer.{answerOf as checkingAnswer};
 ghost use Rattle.matching.specs.Matching.{matchingOf};
-ghost use Rattle.matching.specs.Answer.{refusalOf as checkingRefusal, answerOf as matchingAnswer};
+ghost use Rattle.matching.specs.Answer.{answerOf as matchingAnswer};
 ghost use Rattle.probe.specs.Numbers.{Pair, readPair, comparePair, Probed, probedCompare, matchPair};
 
 // A code and a value.
@@ -56,7 +57,7 @@ pub extern "C" fn probe_read(s: &[u8], place: &mut usize) -> u64
 
 // The pair of a refusal of finishing.
 fn refusal_pair(admission: Admission) -> Coded
-    ensures { λ r. ⌜ Pair.pair (r .code) (r .value) ≡ comparePair (refusalOf (replyOf admission)) ⌝ }
+    ensures { λ r. ⌜ Pair.pair (r .code) (r .value) ≡ comparePair (passedOn (replyOf admission)) ⌝ }
 {
     match admission {
         Admission::AreaTooLong => Coded { code: 1, value: 0 },
@@ -109,7 +110,7 @@ pub extern "C" fn probe_compare(
 
 // The pair of a refusal of checking.
 fn check_pair(checking: Checking) -> Coded
-    ensures { λ r. ⌜ Pair.pair (r .code) (r .value) ≡ matchPair (checkingRefusal (checkingAnswer checking)) ⌝ }
+    ensures { λ r. ⌜ Pair.pair (r .code) (r .value) ≡ matchPair (passedOn (checkingAnswer checking)) ⌝ }
 {
     match checking {
         Checking::FileTooLong => Coded { code: 10, value: 0 },

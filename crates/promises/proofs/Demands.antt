@@ -33,13 +33,13 @@ use Rattle.checking.proofs.Listed.{checking-refused}
 use Rattle.matching.specs.Matching.{lastLine, sameClaim, afterBoth, matchingOf}
 use Rattle.checking.specs.Accepted.{claimOf}
 use Rattle.checking.proofs.Files.{accepted-exactly, complete, claim-unique, accepted-derivable, derivable-listed}
-use Rattle.promises.specs.Demands.{Refusals, SteppedTo, RanTo, Steps, Results, Files, Types}
+use Rattle.promises.specs.Demands.{StepRefuses, FinishRefuses, Refusals, SteppedTo, RanTo, Steps, Results, Files, Types}
 
 step-refused :
     {area work area′ work′ : List ℕ} {len number place : ℕ} →
     step.Call area len work (stepping.After.after (Reply.refused number place) area′ work′) →
-    List·Memᴰ number (1 ∷ 2 ∷ 3 ∷ 5 ∷ 6 ∷ 7 ∷ []) × (area′ ≡ area) × (work′ ≡ work)
-step-refused (step.Call.refused m) = (m .listed, refl, refl)
+    StepRefuses len number place × (area′ ≡ area) × (work′ ≡ work)
+step-refused (step.Call.refused m) = (m, refl, refl)
 
 step-stepped :
     {area work area′ work′ : List ℕ} {len rule s : ℕ} →
@@ -62,8 +62,8 @@ step-no-room (step.Call.made t areas held (step.Answers.no-room {rule = rule} {u
 finish-refused :
     {area work area′ work′ : List ℕ} {len fuel number place : ℕ} {r : finishing.Ran} →
     finish.Call area len work fuel (finishing.After.after (Reply.refused number place) r area′ work′) →
-    List·Memᴰ number (1 ∷ 2 ∷ 3 ∷ 4 ∷ 5 ∷ 6 ∷ 7 ∷ []) × (area′ ≡ area) × (work′ ≡ work)
-finish-refused (finish.Call.refused m) = (m .listed, refl, refl)
+    FinishRefuses len number place × (area′ ≡ area) × (work′ ≡ work)
+finish-refused (finish.Call.refused m) = (m, refl, refl)
 
 finish-ran :
     {area work area′ work′ : List ℕ} {len fuel n s : ℕ} {o : Outcome} →
@@ -85,8 +85,9 @@ finish-ran {area = area} {fuel = fuel} (finish.Call.made t admits) =
 compare-refused :
     {first second work first′ second′ work′ : List ℕ} {len₁ len₂ fuel number place : ℕ} →
     compare.Call first len₁ second len₂ work fuel (comparing.After.after (Reply.refused number place) first′ second′ work′) →
-    List·Memᴰ number (1 ∷ 2 ∷ 3 ∷ 4 ∷ 5 ∷ 6 ∷ 7 ∷ []) × (first′ ≡ first) × (second′ ≡ second) × (work′ ≡ work)
-compare-refused (compare.Call.refused m) = (m .listed, refl, refl, refl)
+    (FinishRefuses len₁ number place ⊎ FinishRefuses len₂ number place) × (first′ ≡ first) × (second′ ≡ second) × (work′ ≡ work)
+compare-refused (compare.Call.first-refused m) = (inl m, refl, refl, refl)
+compare-refused (compare.Call.second-refused m) = (inr m, refl, refl, refl)
 
 -- a refusal of matching is checking's, of the first file or of the second
 match-refused :
@@ -117,12 +118,11 @@ refusals =
       of-comparing =
           λ first second work first′ second′ work′ len₁ len₂ fuel number place e.
           compare-refused (subst (compare.Call first len₁ second len₂ work fuel) e (compare.call first len₁ second len₂ work fuel));
-      of-reading = λ bytes number place e. let found = reading-refused bytes number place e in (found .listed, found .within);
-      of-checking = λ file number line e. let found = checking-refused file number line e in (found .listed, found .within);
+      of-reading = reading-refused;
+      of-checking = checking-refused;
       of-matching =
           λ first second number line e.
-          let found = ⊎-elim (checking-refused first number line) (checking-refused second number line) (match-refused first second number line e) in
-          (found .listed, found .within);
+          ⊎-elim (λ f. inl (checking-refused first number line f)) (λ f. inr (checking-refused second number line f)) (match-refused first second number line e);
     }
 
 -- Demand 2, first half

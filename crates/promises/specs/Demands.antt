@@ -1,10 +1,11 @@
 -- The three demands, stated over the definitions that the public operations promise to equal. proofs/Demands.antt proves them.
-use Prim.Native.Nat.{ℕ, _≤_, _<_}
+use Prim.Native.Nat.{ℕ, _≤_, _<_, min}
 use mathlib.Core.Path.{_≡_}
-use mathlib.Core.Logic.{_↔_}
+use mathlib.Core.Logic.{_↔_, _⊎_}
 use mathlib.Core.List.{List, [], _∷_, List·Memᴰ}
 use mathlib.Core.Option.{some}
 use lib.ListN.{length, take}
+use Rattle.calculus.specs.Limits.{areaLimit, lineLimit}
 use Rattle.calculus.specs.Term.{Term, text, size, Normal}
 use Rattle.calculus.specs.Order.{Step}
 use Rattle.calculus.specs.Turning.{Turn}
@@ -12,44 +13,53 @@ use Rattle.calculus.specs.Run.{Outcome, Run, Runs, run, outcome, count, terms, 
 use Rattle.calculus.specs.Types.{Context, Ty}
 use Rattle.calculus.specs.Typing.{Judgement}
 use Rattle.calculus.specs.Derivation.{Derivable}
-use Rattle.reading.specs.Reply.{Reply}
+use Rattle.reading.specs.Reply.{Reply, Refuses}
 use Rattle.reading.specs.Reading.{readingOf}
 use Rattle.stepping.specs.Areas.{holding, cleared}
 use Rattle.stepping.specs.Held.{Holds}
 use Rattle.stepping.specs.Stepping as stepping
 use Rattle.finishing.specs.Finishing as finishing
 use Rattle.comparing.specs.Comparing as comparing
+use Rattle.slices.specs.Split.{lines}
 use Rattle.checking.specs.Line.{Line, fileText}
 use Rattle.checking.specs.Checking.{checkingOf}
 use Rattle.matching.specs.Matching.{matchingOf}
 use Rattle.checking.specs.Accepted.{LinesFollow, Accepted, claimOf, Claims}
 
--- Demand 1: "gets a reply that document 01 lists .. a refused call names its number and changes no lent byte."
+-- the refusals of stepping: 1 to 3 at place 0, and reading's own of the first len bytes
+abbrev pub StepRefuses : (len number place : ℕ) → Type 0
+StepRefuses len number place = Refuses (1 ∷ 2 ∷ 3 ∷ []) (5 ∷ 6 ∷ 7 ∷ []) 0 (min len areaLimit) number place
+
+-- those of finishing: 4 too
+abbrev pub FinishRefuses : (len number place : ℕ) → Type 0
+FinishRefuses len number place = Refuses (1 ∷ 2 ∷ 3 ∷ 4 ∷ []) (5 ∷ 6 ∷ 7 ∷ []) 0 (min len areaLimit) number place
+
+-- those of checking: 10 to 13 at line 0, and 14 to 18 at a line of the file
+abbrev pub CheckRefuses : (file : List ℕ) (number line : ℕ) → Type 0
+CheckRefuses file number line =
+    Refuses (10 ∷ 11 ∷ 12 ∷ 13 ∷ []) (14 ∷ 15 ∷ 16 ∷ 17 ∷ 18 ∷ []) 1 (min lineLimit (length (lines file))) number line
+
+-- Demand 1: a refusal has a listed number at its place, and changes no lent byte.
 -- (That every call ends, and that the reply and every lent byte are those of these definitions, for every input, is what the contracts say.)
 pub record Refusals : Type 0 where
+  pub of-reading :
+      (bytes : List ℕ) (number place : ℕ) → readingOf bytes ≡ Reply.refused number place → Refuses [] (5 ∷ 6 ∷ 7 ∷ []) 0 (length bytes) number place
   pub of-stepping :
       (area work area′ work′ : List ℕ) (len number place : ℕ) →
       stepping.steppingOf area len work ≡ stepping.After.after (Reply.refused number place) area′ work′ →
-      List·Memᴰ number (1 ∷ 2 ∷ 3 ∷ 5 ∷ 6 ∷ 7 ∷ []) × (area′ ≡ area) × (work′ ≡ work)
+      StepRefuses len number place × (area′ ≡ area) × (work′ ≡ work)
   pub of-finishing :
       (area work area′ work′ : List ℕ) (len fuel number place : ℕ) (r : finishing.Ran) →
       finishing.finishingOf area len work fuel ≡ finishing.After.after (Reply.refused number place) r area′ work′ →
-      List·Memᴰ number (1 ∷ 2 ∷ 3 ∷ 4 ∷ 5 ∷ 6 ∷ 7 ∷ []) × (area′ ≡ area) × (work′ ≡ work)
+      FinishRefuses len number place × (area′ ≡ area) × (work′ ≡ work)
   pub of-comparing :
       (first second work first′ second′ work′ : List ℕ) (len₁ len₂ fuel number place : ℕ) →
       comparing.comparingOf first len₁ second len₂ work fuel ≡ comparing.After.after (Reply.refused number place) first′ second′ work′ →
-      List·Memᴰ number (1 ∷ 2 ∷ 3 ∷ 4 ∷ 5 ∷ 6 ∷ 7 ∷ []) × (first′ ≡ first) × (second′ ≡ second) × (work′ ≡ work)
-  pub of-reading :
-      (bytes : List ℕ) (number place : ℕ) →
-      readingOf bytes ≡ Reply.refused number place → List·Memᴰ number (5 ∷ 6 ∷ 7 ∷ []) × (place ≤ length bytes)
-  pub of-checking :
-      (file : List ℕ) (number line : ℕ) →
-      checkingOf file ≡ Reply.refused number line →
-      List·Memᴰ number (10 ∷ 11 ∷ 12 ∷ 13 ∷ 14 ∷ 15 ∷ 16 ∷ 17 ∷ 18 ∷ []) × (line ≤ 1024)
+      (FinishRefuses len₁ number place ⊎ FinishRefuses len₂ number place) × (first′ ≡ first) × (second′ ≡ second) × (work′ ≡ work)
+  pub of-checking : (file : List ℕ) (number line : ℕ) → checkingOf file ≡ Reply.refused number line → CheckRefuses file number line
   pub of-matching :
       (first second : List ℕ) (number line : ℕ) →
-      matchingOf first second ≡ Reply.refused number line →
-      List·Memᴰ number (10 ∷ 11 ∷ 12 ∷ 13 ∷ 14 ∷ 15 ∷ 16 ∷ 17 ∷ 18 ∷ []) × (line ≤ 1024)
+      matchingOf first second ≡ Reply.refused number line → CheckRefuses first number line ⊎ CheckRefuses second number line
 
 -- the step of stepping: the one that the rules and the order name, and what the areas hold after it
 pub record SteppedTo (area : List ℕ) (len : ℕ) (work : List ℕ) (rule s : ℕ) (area′ work′ : List ℕ) : Type 0 where

@@ -11,7 +11,7 @@ use lib.ListN.{length, getD, drop, length-drop, drop-of-length-le}
 use lib.Seq.{drop-cons, drop-drop, drop-at}
 use Rattle.calculus.specs.Letter.{Letter, letterOf}
 use Rattle.calculus.specs.Term.{Term, text, size}
-use Rattle.reading.specs.Parts.{partsOfLetter, partsOf}
+use Rattle.reading.specs.Arity.{arityOfLetter, arityOf}
 use Rattle.stepping.specs.Skip.{owedBehind, skip, endAt}
 
 -- no terms take no bytes
@@ -67,11 +67,11 @@ end-letter s at k h e =
     omega arith
 
 -- a byte that takes one term or two takes as many as it is said to; any other takes none
-taken : (o : Option Letter) (k : ℕ) → (k ≡ 3 → ⊥) → partsOfLetter o ≡ k → owedBehind o 0 ≡ k
+taken : (o : Option Letter) (k : ℕ) → (k ≡ 3 → ⊥) → arityOfLetter o ≡ k → owedBehind o 0 ≡ k
 taken none k n e = absurd (n (sym e))
 taken (some l) k n e = e
 
-none-taken : (o : Option Letter) → (partsOfLetter o ≡ 1 → ⊥) → (partsOfLetter o ≡ 2 → ⊥) → owedBehind o 0 ≡ 0
+none-taken : (o : Option Letter) → (arityOfLetter o ≡ 1 → ⊥) → (arityOfLetter o ≡ 2 → ⊥) → owedBehind o 0 ≡ 0
 none-taken none n m = refl
 none-taken (some Letter.J) n m = refl
 none-taken (some Letter.R) n m = absurd (n refl)
@@ -81,15 +81,15 @@ none-taken (some Letter.I) n m = refl
 none-taken (some Letter.B) n m = absurd (m refl)
 none-taken (some Letter.stop) n m = absurd (m refl)
 
-module _ (s : List ℕ) (at parts : ℕ) (h : at < length s) (p : parts ≡ partsOf (getD s at 0)) where
+module _ (s : List ℕ) (at parts : ℕ) (h : at < length s) (p : parts ≡ arityOf (getD s at 0)) where
   -- a letter that takes one term ends where that term ends
   pub end-one : parts ≡ 1 → endAt s (at + 1) ≡ endAt s at
-  unfolding partsOf
+  unfolding arityOf
   end-one e = sym (end-letter s at 1 h (taken (letterOf (getD s at 0)) 1 (omega arith) (sym p ∙ e)))
 
   -- a letter that takes two terms ends where the second ends
   pub end-two : (mid : ℕ) → parts ≡ 2 → mid ≡ endAt s (at + 1) → endAt s mid ≡ endAt s at
-  unfolding partsOf
+  unfolding arityOf
   end-two mid e m =
       let later = drop (at + 1) s in
       let both : endAt s at ≡ at + 1 + skip 2 later = end-letter s at 2 h (taken (letterOf (getD s at 0)) 2 (omega arith) (sym p ∙ e)) in
@@ -99,7 +99,7 @@ module _ (s : List ℕ) (at parts : ℕ) (h : at < length s) (p : parts ≡ part
 
   -- any other byte is a part by itself
   pub end-leaf : (parts ≡ 1 → ⊥) → (parts ≡ 2 → ⊥) → at + 1 ≡ endAt s at
-  unfolding partsOf
+  unfolding arityOf
   end-leaf n m =
       omega (arith, end-letter s at 0 h (none-taken (letterOf (getD s at 0)) (λ e. n (p ∙ e)) (λ e. m (p ∙ e))), skip-none (drop (at + 1) s))
 

@@ -9,7 +9,7 @@ pub(crate) fn part_end(s: &[u8], at: usize) -> usize
     if s.len() <= at {
         return at;
     }
-    let parts = reading::parts_of(s[at]);
+    let parts = reading::arity(s[at]);
     if parts == 1 {
         return part_end(s, at + 1);
     }

@@ -14,6 +14,7 @@ ghost use Prim.Native.Nat.{ℕ, _-_, _≤_};
 ghost use lib.ListN.{length, take, replicate};
 ghost use Rattle.calculus.specs.Term.{Term, text};
 ghost use Rattle.calculus.specs.Order.{next};
+ghost use Rattle.reading.specs.Reply.{numberIn, placeIn};
 ghost use Rattle.slices.specs.Wrote.{Wrote};
 ghost use Rattle.stepping.specs.Areas.{holding};
 ghost use Rattle.stepping.specs.Spot.{Begins};
@@ -36,6 +37,36 @@ pub enum Stepping {
     NoRoom(usize),
     // The rule's number, and the size of the new term.
     Done(u8, usize),
+}
+
+// The number of a refusal, 0 of an answer.
+pub fn number(answer: Stepping) -> u64
+    ensures { λ r. ⌜ r ≡ numberIn (answerOf answer) ⌝ }
+{
+    match answer {
+        Stepping::AreaTooLong => 1,
+        Stepping::WorkTooShort => 2,
+        Stepping::LengthTooLong => 3,
+        Stepping::Unread(reading) => reading::number(reading),
+        Stepping::Normal(_) => 0,
+        Stepping::NoRoom(_) => 0,
+        Stepping::Done(_, _) => 0,
+    }
+}
+
+// The place of a refusal, 0 of an answer.
+pub fn place(answer: Stepping) -> usize
+    ensures { λ r. ⌜ r ≡ placeIn (answerOf answer) ⌝ }
+{
+    match answer {
+        Stepping::AreaTooLong => 0,
+        Stepping::WorkTooShort => 0,
+        Stepping::LengthTooLong => 0,
+        Stepping::Unread(reading) => reading::place(reading),
+        Stepping::Normal(_) => 0,
+        Stepping::NoRoom(_) => 0,
+        Stepping::Done(_, _) => 0,
+    }
 }
 
 // Zeros behind the term, which takes the first `size` bytes, and in the whole work area.
@@ -83,7 +114,7 @@ fn advance(area: &mut [u8], len: usize, work: &mut [u8]) -> Stepping
 pub fn step(area: &mut [u8], len: usize, work: &mut [u8]) -> Stepping
     ensures { λ r. ⌜ After.after (answerOf r) (now (area .exit)) (now (work .exit)) ≡ steppingOf (now (area .entry)) len (now (work .entry)) ⌝ }
 {
-    if 16384 < area.len() {
+    if calculus::AREA_LIMIT < area.len() {
         return Stepping::AreaTooLong;
     }
     if work.len() < area.len() {

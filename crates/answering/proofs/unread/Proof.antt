@@ -1,7 +1,7 @@
 -- `answering::unread` meets its contract: each case has its number by definition. Assumes nothing.
 use mathlib.Core.Path.{sym, ap}
 use Rattle.reading.specs.Reply.{Reply}
-use Rattle.reading.specs.Reading.{refusal}
+use Rattle.reading.specs.Reply.{passedOn}
 use Rattle.reading.specs.Answer.{answerOf}
 use Rattle.reading.specs.declared.Reading.{Reading}
 use borrow.Author.Needs.{needs}
@@ -9,7 +9,7 @@ use Rattle.answering.proofs.unread.Statement.{statement}
 use Rattle.answering.proofs.unread.Tie as tie
 
 abbrev refused : Reading → Reply Unit
-refused reading = refusal (answerOf reading)
+refused reading = passedOn (answerOf reading)
 
 enum-known-reading : tie.Need-enum-known-reading
 enum-known-reading c = search needs

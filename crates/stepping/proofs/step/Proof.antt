@@ -12,7 +12,8 @@ use lib.Seq.{length-take-le}
 use Rattle.reading.specs.declared.Reading.{Reading}
 use Rattle.reading.specs.declared.Reading.the-variants.{Whole, NoLetter, NotWhole, Beyond}
 use Rattle.reading.proofs.Reading.{the-type}
-use Rattle.reading.specs.Reading.{readingOf, refusal}
+use Rattle.reading.specs.Reply.{passedOn}
+use Rattle.reading.specs.Reading.{readingOf}
 use Rattle.reading.specs.Answer.{answerOf as readingAnswer}
 use Rattle.stepping.specs.Stepping.{After, steppingOf}
 use Rattle.stepping.proofs.Stepped.{area-refused, work-refused, length-refused, reading-refused, reading-answered}
@@ -23,7 +24,7 @@ use Rattle.stepping.proofs.step.Tie as tie
 unread :
     (area : List ℕ) (len : ℕ) (work : List ℕ) → length area ≤ 16384 → length area ≤ length work → len ≤ length area →
     (r : Reading) → readingAnswer r ≡ readingOf (take len area) → OneOf (1 ∷ 2 ∷ 3 ∷ []) (tagOf the-type r) →
-    After.after (refusal (readingAnswer r)) area work ≡ steppingOf area len work
+    After.after (passedOn (readingAnswer r)) area work ≡ steppingOf area len work
 unread area len work short enough within (Whole n) e k = absurd (⊎-elim (λ h. omega arith) (⊎-elim (λ h. omega arith) (λ h. omega arith)) k)
 unread area len work short enough within (NoLetter place) e k = reading-refused area len work short enough within 5 place e
 unread area len work short enough within (NotWhole place) e k = reading-refused area len work short enough within 6 place e

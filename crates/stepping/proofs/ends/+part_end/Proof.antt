@@ -11,7 +11,7 @@ use borrow.Fn.PlainCycle.{Measures, is, falls, and}
 use Rattle.stepping.proofs.ends.part_end.Reads as part-end
 use Rattle.stepping.proofs.ends.part_end.Kinds as part-end-kinds
 use Rattle.stepping.proofs.ends.+part_end.Lts-part_end as part-end-lts
-use Rattle.reading.proofs.parts_of.Reads as parts-of-reads
+use Rattle.reading.proofs.arity.Reads as arity-reads
 use Rattle.stepping.proofs.ends.+part_end.{statement}
 use Rattle.stepping.proofs.ends.+part_end.Tie.{close}
 
@@ -27,35 +27,35 @@ part-end-below t =
 
 -- src/ends.rt:10:9
 part-end-returns : (t : ℕ) → part-end-lts.Need-returns (
-  parts-of-reads.Asked,
-  parts-of-reads.Learnt,
+  arity-reads.Asked,
+  arity-reads.Learnt,
   part-end-below t,
   part-end.Post,
 ) (part-end-at t) part-end.Post
 part-end-returns t c = end-past (c .before .before .args .s .now) (c .before .before .args .at) (c .if1 .taken)
 
 -- src/ends.rt:12:35
-part-end-shared-slice-read-parts-of : (t : ℕ) → part-end-lts.Need-shared-slice-read-parts-of (
-  parts-of-reads.Asked,
-  parts-of-reads.Learnt,
+part-end-shared-slice-read-arity : (t : ℕ) → part-end-lts.Need-shared-slice-read-arity (
+  arity-reads.Asked,
+  arity-reads.Learnt,
   part-end-below t,
   part-end.Post,
 ) (part-end-at t) part-end.Post
-part-end-shared-slice-read-parts-of t c = omega arith
+part-end-shared-slice-read-arity t c = omega arith
 
 -- src/ends.rt:12:9
-part-end-parts-of-requires : (t : ℕ) → part-end-lts.Need-parts-of-requires (
-  parts-of-reads.Asked,
-  parts-of-reads.Learnt,
+part-end-arity-requires : (t : ℕ) → part-end-lts.Need-arity-requires (
+  arity-reads.Asked,
+  arity-reads.Learnt,
   part-end-below t,
   part-end.Post,
 ) (part-end-at t) part-end.Post
-part-end-parts-of-requires t c κs = search needs
+part-end-arity-requires t c κs = search needs
 
 -- src/ends.rt:14:28
 part-end-add-part-end : (t : ℕ) → part-end-lts.Need-add-part-end (
-  parts-of-reads.Asked,
-  parts-of-reads.Learnt,
+  arity-reads.Asked,
+  arity-reads.Learnt,
   part-end-below t,
   part-end.Post,
 ) (part-end-at t) part-end.Post
@@ -63,8 +63,8 @@ part-end-add-part-end t c = omega arith
 
 -- src/ends.rt:14:9
 part-end-part-end-requires : (t : ℕ) → part-end-lts.Need-part-end-requires (
-  parts-of-reads.Asked,
-  parts-of-reads.Learnt,
+  arity-reads.Asked,
+  arity-reads.Learnt,
   part-end-below t,
   part-end.Post,
 ) (part-end-at t) part-end.Post
@@ -72,19 +72,19 @@ part-end-part-end-requires t c κs = (omega arith, tt)
 
 -- src/ends.rt:14:9
 part-end-returns-2 : (t : ℕ) → part-end-lts.Need-returns-2 (
-  parts-of-reads.Asked,
-  parts-of-reads.Learnt,
+  arity-reads.Asked,
+  arity-reads.Learnt,
   part-end-below t,
   part-end.Post,
 ) (part-end-at t) part-end.Post
 part-end-returns-2 t c =
     let a = c .before .before .before .before .before .before .args in
-    c .part-end .ensures ∙ end-one (a .s .now) (a .at) (c .before .before .parts-of .result) (c .before .before .before .before .if1 .left) (c .before .before .parts-of .ensures) (c .before .if2 .taken)
+    c .part-end .ensures ∙ end-one (a .s .now) (a .at) (c .before .before .arity .result) (c .before .before .before .before .if1 .left) (c .before .before .arity .ensures) (c .before .if2 .taken)
 
 -- src/ends.rt:17:31
 part-end-add-part-end-2 : (t : ℕ) → part-end-lts.Need-add-part-end-2 (
-  parts-of-reads.Asked,
-  parts-of-reads.Learnt,
+  arity-reads.Asked,
+  arity-reads.Learnt,
   part-end-below t,
   part-end.Post,
 ) (part-end-at t) part-end.Post
@@ -92,8 +92,8 @@ part-end-add-part-end-2 t c = omega arith
 
 -- src/ends.rt:17:13
 part-end-part-end-requires-2 : (t : ℕ) → part-end-lts.Need-part-end-requires-2 (
-  parts-of-reads.Asked,
-  parts-of-reads.Learnt,
+  arity-reads.Asked,
+  arity-reads.Learnt,
   part-end-below t,
   part-end.Post,
 ) (part-end-at t) part-end.Post
@@ -101,8 +101,8 @@ part-end-part-end-requires-2 t c κs = (omega arith, tt)
 
 -- src/ends.rt:18:9
 part-end-part-end-requires-3 : (t : ℕ) → part-end-lts.Need-part-end-requires-3 (
-  parts-of-reads.Asked,
-  parts-of-reads.Learnt,
+  arity-reads.Asked,
+  arity-reads.Learnt,
   part-end-below t,
   part-end.Post,
 ) (part-end-at t) part-end.Post
@@ -110,19 +110,19 @@ part-end-part-end-requires-3 t c κs = (omega arith, tt)
 
 -- src/ends.rt:18:9
 part-end-returns-3 : (t : ℕ) → part-end-lts.Need-returns-3 (
-  parts-of-reads.Asked,
-  parts-of-reads.Learnt,
+  arity-reads.Asked,
+  arity-reads.Learnt,
   part-end-below t,
   part-end.Post,
 ) (part-end-at t) part-end.Post
 part-end-returns-3 t c =
     let a = c .before .before .before .before .before .before .before .before .args in
-    c .part-end3 .ensures ∙ end-two (a .s .now) (a .at) (c .before .before .before .before .parts-of .result) (c .before .before .before .before .before .before .if1 .left) (c .before .before .before .before .parts-of .ensures) (c .before .part-end2 .result) (c .before .before .if3 .taken) (c .before .part-end2 .ensures)
+    c .part-end3 .ensures ∙ end-two (a .s .now) (a .at) (c .before .before .before .before .arity .result) (c .before .before .before .before .before .before .if1 .left) (c .before .before .before .before .arity .ensures) (c .before .part-end2 .result) (c .before .before .if3 .taken) (c .before .part-end2 .ensures)
 
 -- src/ends.rt:20:5
 part-end-add-result : (t : ℕ) → part-end-lts.Need-add-result (
-  parts-of-reads.Asked,
-  parts-of-reads.Learnt,
+  arity-reads.Asked,
+  arity-reads.Learnt,
   part-end-below t,
   part-end.Post,
 ) (part-end-at t) part-end.Post
@@ -130,27 +130,27 @@ part-end-add-result t c = omega arith
 
 -- src/ends.rt:6:1
 part-end-returns-4 : (t : ℕ) → part-end-lts.Need-returns-4 (
-  parts-of-reads.Asked,
-  parts-of-reads.Learnt,
+  arity-reads.Asked,
+  arity-reads.Learnt,
   part-end-below t,
   part-end.Post,
 ) (part-end-at t) part-end.Post
 part-end-returns-4 t c =
     let a = c .before .before .before .before .before .before .args in
-    end-leaf (a .s .now) (a .at) (c .before .before .parts-of .result) (c .before .before .before .before .if1 .left) (c .before .before .parts-of .ensures) (c .before .if2 .left) (c .if3 .left)
+    end-leaf (a .s .now) (a .at) (c .before .before .arity .result) (c .before .before .before .before .if1 .left) (c .before .before .arity .ensures) (c .before .if2 .left) (c .if3 .left)
 
 pub +part-end-spec : {M : Type 1} → statement M
 +part-end-spec = close μ-part-end λ t. part-end-lts.spec (
-  parts-of-reads.Asked,
-  parts-of-reads.Learnt,
+  arity-reads.Asked,
+  arity-reads.Learnt,
   part-end-below t,
   part-end.Post,
 )
     (part-end-at t)
     part-end.Post
     (part-end-returns t)
-    (part-end-shared-slice-read-parts-of t)
-    (part-end-parts-of-requires t)
+    (part-end-shared-slice-read-arity t)
+    (part-end-arity-requires t)
     (part-end-add-part-end t)
     (part-end-part-end-requires t)
     (part-end-returns-2 t)
