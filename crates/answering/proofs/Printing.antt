@@ -7,7 +7,7 @@ use Rattle.slices.proofs.Part.{part-front}
 use Rattle.finish_line.specs.Printed.{lineOf}
 use Rattle.finish_line.proofs.Writing.{Appends}
 use Rattle.reading.specs.Reply.{Reply}
-use Rattle.checking.specs.Checking.{checkingOf}
+use Rattle.derivation_files.specs.Checking.{checkingOf}
 use Rattle.finishing.specs.Finishing.{Ran}
 use Rattle.finishing.specs.Answer.{outcomeOf, ranOf}
 use Rattle.finishing.specs.declared.Outcome.{Outcome}

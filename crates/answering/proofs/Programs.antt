@@ -11,7 +11,7 @@ use lib.ListN.{length, take, length-take}
 use lib.Seq.{take-all}
 use Rattle.slices.specs.Put.{put, behind}
 use Rattle.reading.specs.Reply.{Reply}
-use Rattle.checking.specs.Checking.{checkingOf}
+use Rattle.derivation_files.specs.Checking.{checkingOf}
 use Rattle.finishing.specs.Finishing.{finishingOf}
 use Rattle.finish_line.specs.Request.{requestOf}
 use Rattle.finish_line.specs.Request.{Request as Wanted}

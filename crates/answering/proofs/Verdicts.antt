@@ -11,9 +11,9 @@ use lib.ListN.{length}
 use Rattle.slices.specs.Split.{lines, fields, lastByte}
 use Rattle.calculus.specs.Typing.{Judgement, Name}
 use Rattle.reading.specs.Reply.{Reply, refuseIf}
-use Rattle.checking.specs.Line.{judgementOf, nameOf, premiseOf}
-use Rattle.checking.specs.Instance.{Premises, isInstance}
-use Rattle.checking.specs.Checking.{Found, premisesOf, premiseCount, foundIf, foundInstance, foundName, foundJudgement, foundFields, onward, checkLines, checkingOf}
+use Rattle.derivation_files.specs.Line.{judgementOf, nameOf, premiseOf}
+use Rattle.derivation_files.specs.Instance.{Premises, isInstance}
+use Rattle.derivation_files.specs.Checking.{Found, premisesOf, premiseCount, foundIf, foundInstance, foundName, foundJudgement, foundFields, onward, checkLines, checkingOf}
 use Rattle.answering.specs.Program.{checkProgram}
 use Rattle.answering.proofs.Lengths.{Small, check-length}
 

@@ -7,7 +7,7 @@ use mathlib.Core.Option.{Option, none, some}
 use lib.ListN.{length, take, replicate}
 use Rattle.finish_line.specs.Request.{Request, requestOf}
 use Rattle.finishing.specs.Finishing.{finishingOf}
-use Rattle.checking.specs.Checking.{checkingOf}
+use Rattle.derivation_files.specs.Checking.{checkingOf}
 use Rattle.answering.specs.Shown.{refusedLine, shownRun, shownCheck}
 
 -- input of another shape

@@ -11,7 +11,7 @@ use lib.Dec.{leb, ltb, eqb}
 use lib.ListN.{length, getD, drop, drop-of-length-le}
 use lib.Seq.{drop-cons}
 use Rattle.slices.specs.Numeral.{isDigit, allDigits, valueFrom, someIf, numberOf}
-use Rattle.checking.specs.Line.{Premise, premiseOr, isDash, premiseOf}
+use Rattle.derivation_files.specs.Line.{Premise, premiseOr, isDash, premiseOf}
 use Rattle.checking.specs.declared.premises.Cited.{Cited}
 use Rattle.checking.specs.declared.premises.Cited.the-variants.{Dash, Line, Nothing}
 use Rattle.checking.specs.Cited.{digitOf, upTo, lineIf, citedOf}

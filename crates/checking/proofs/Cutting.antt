@@ -14,7 +14,7 @@ use lib.Seq.{drop-drop, getD-drop}
 use Rattle.slices.specs.Part.{part}
 use Rattle.calculus.specs.Typing.{Judgement}
 use Rattle.slices.specs.Split.{consFirst, cutOr, split, fields}
-use Rattle.checking.specs.Checking.{Found, foundFields}
+use Rattle.derivation_files.specs.Checking.{Found, foundFields}
 use Rattle.checking.specs.Texts.{textAt}
 use Rattle.slices.proofs.Decimal.{and-both}
 use Rattle.checking.specs.Fields.{stopIn, stopAt, behindIn, fieldAt, judgedAt, sixAt, isTab, hasSix}

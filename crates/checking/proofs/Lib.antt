@@ -1,7 +1,4 @@
--- The theorems about derivation files.
-pub mod Instance
-pub mod Split
-pub mod Numeral
+-- The laws that the code's proofs cite.
 pub mod Joined
 pub mod Stops
 pub mod Citing
@@ -12,6 +9,3 @@ pub mod Cutting
 pub mod Replied
 pub mod TextChecking
 pub mod Walk
-pub mod GoodLines
-pub mod Files
-pub mod Listed

@@ -9,7 +9,7 @@ use borrow.Author.Tests.{ne-eqb}
 use lib.Dec.{eqb}
 use lib.ListN.{length, getD}
 use Rattle.calculus.specs.Typing.{Name, nameByte}
-use Rattle.checking.specs.Line.{names, chosenName, findName, nameOf}
+use Rattle.derivation_files.specs.Line.{names, chosenName, findName, nameOf}
 use Rattle.checking.specs.Fields.{Texts}
 use Rattle.checking.specs.declared.rules.Rule.{Rule}
 use Rattle.checking.specs.declared.rules.Rule.the-variants.{Unknown}

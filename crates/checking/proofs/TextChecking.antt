@@ -20,9 +20,9 @@ use Rattle.types.specs.Parse.{typeOf, contextOf}
 use Rattle.types.specs.Tests.{isSome}
 use Rattle.types.proofs.Parse.{text-typeOf, text-contextOf}
 use Rattle.slices.specs.Split.{fields}
-use Rattle.checking.specs.Line.{Premise, judgementIf, judgementOf, nameOf, premiseOf}
-use Rattle.checking.specs.Instance.{Premises, isInstance}
-use Rattle.checking.specs.Checking.{Found, earlierLine, noPremise, namedPremise, premisesNone, premisesOne, premisesTwo, premiseCount, premisesOf, foundIf, foundInstance, foundName, foundJudgement, foundFields}
+use Rattle.derivation_files.specs.Line.{Premise, judgementIf, judgementOf, nameOf, premiseOf}
+use Rattle.derivation_files.specs.Instance.{Premises, isInstance}
+use Rattle.derivation_files.specs.Checking.{Found, earlierLine, noPremise, namedPremise, premisesNone, premisesOne, premisesTwo, premiseCount, premisesOf, foundIf, foundInstance, foundName, foundJudgement, foundFields}
 use Rattle.checking.specs.Texts.{textAt}
 use Rattle.checking.specs.Fields.{judgedAt, sixAt, hasSix, Texts, textsAt}
 use Rattle.checking.specs.Cited.{lineIf, citedOf, isDashed, isLine, citedFit, startOr}

@@ -18,8 +18,8 @@ use Rattle.types.specs.Tests.{isSimple}
 use Rattle.types.specs.Scan.{simpleEnd}
 use Rattle.types.proofs.Parse.{typeOf-text, types-readable, ty-injective, simple-not-context}
 use Rattle.types.proofs.Made.{arrow-text, bind-text}
-use Rattle.checking.specs.Instance.{Premises, sameSimple, sameContext, sameTy, asksJ, asksR, asksH, asksA, asksI, asksB, asksS, isInstance}
-use Rattle.checking.specs.Checking.{premiseCount}
+use Rattle.derivation_files.specs.Instance.{Premises, sameSimple, sameContext, sameTy, asksJ, asksR, asksH, asksA, asksI, asksB, asksS, isInstance}
+use Rattle.derivation_files.specs.Checking.{premiseCount}
 use Rattle.checking.specs.Texts.{simpleBehind}
 use Rattle.checking.specs.Fields.{Texts}
 use Rattle.checking.specs.TextInstance.{ruleOf, typeText, asksTextJ, asksTextR, asksTextH, asksTextA, asksTextI, asksTextB, asksTextS, instanceText}

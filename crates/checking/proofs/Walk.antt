@@ -14,7 +14,7 @@ use lib.Seq.{drop-cons, getD-set-same, getD-set-other}
 use Rattle.reading.specs.Reply.{Reply, refuseIf}
 use Rattle.calculus.specs.Typing.{Judgement}
 use Rattle.slices.specs.Split.{consFirst, cutOr, split, allButLast, lines, fields, lastByte}
-use Rattle.checking.specs.Checking.{Found, earlierLine, foundFields, onward, checkLines, checkingOf}
+use Rattle.derivation_files.specs.Checking.{Found, earlierLine, foundFields, onward, checkLines, checkingOf}
 use Rattle.checking.specs.Fields.{judgedAt, sixAt, hasSix, Texts, textsAt}
 use Rattle.checking.specs.TextChecking.{isAnswered, unless, sixReply, ruleIn, firstIn, secondIn, lineReply}
 use Rattle.checking.specs.declared.fields.SixFields.{SixFields}

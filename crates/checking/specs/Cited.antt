@@ -5,7 +5,7 @@ use mathlib.Core.List.{List}
 use mathlib.Core.Option.{Option, none, some}
 use lib.Dec.{leb, ltb}
 use lib.ListN.{getD}
-use Rattle.checking.specs.Line.{Premise}
+use Rattle.derivation_files.specs.Line.{Premise}
 use Rattle.slices.specs.Numeral.{isDigit}
 use Rattle.checking.specs.declared.premises.Cited.{Cited}
 use Rattle.checking.specs.declared.premises.Cited.the-variants.{Dash, Line, Nothing}

@@ -1,7 +1,3 @@
-pub mod Line
-pub mod Instance
-pub mod Checking
-pub mod Accepted
 pub mod Answer
 pub mod Texts
 pub mod Fields

@@ -1,5 +1,5 @@
 -- What one line comes to, by its texts: the refusal with its number and the line's own number, or that number where the line is good.
--- `proofs/TextChecking.antt` shows that this is what is found of the line by `Checking.antt`.
+-- `proofs/TextChecking.antt` shows that this is what is found of the line by `derivation_files/specs/Checking.antt`.
 use Prim.Native.Nat.{ℕ, _+_}
 use mathlib.Core.Bool.{Bool, true, false, _&&_}
 use mathlib.Core.List.{List}
@@ -8,7 +8,7 @@ use Rattle.reading.specs.Reply.{Reply}
 use Rattle.calculus.specs.Parse.{termOf}
 use Rattle.types.specs.Parse.{typeOf, contextOf}
 use Rattle.types.specs.Tests.{isSome}
-use Rattle.checking.specs.Line.{nameOf, premiseOf}
+use Rattle.derivation_files.specs.Line.{nameOf, premiseOf}
 use Rattle.checking.specs.Texts.{textAt}
 use Rattle.checking.specs.Fields.{judgedAt, hasSix, Texts, textsAt}
 use Rattle.checking.specs.Cited.{citedOf, citedFit, startOr}

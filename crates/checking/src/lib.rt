@@ -1,4 +1,4 @@
-// Checking derivation files.
+// Checking derivation files; what they are and what is answered stands in derivation_files.
 mod fields;
 mod line;
 mod premises;
@@ -11,7 +11,7 @@ ghost use mathlib.Core.List.{[]};
 ghost use lib.ListN.{length};
 ghost use Rattle.reading.specs.Reply.{numberIn, placeIn};
 ghost use Rattle.slices.specs.Split.{lines, lastByte};
-ghost use Rattle.checking.specs.Checking.{checkLines, checkingOf};
+ghost use Rattle.derivation_files.specs.Checking.{checkLines, checkingOf};
 ghost use Rattle.checking.specs.Answer.{answerOf};
 use fields::six_at;
 use line::check_line;

@@ -3,7 +3,7 @@ ghost use mathlib.Core.Path.{_≡_};
 ghost use Prim.Native.Nat.{_≤_};
 ghost use lib.ListN.{getD};
 ghost use Rattle.slices.specs.Numeral.{numberOf};
-ghost use Rattle.checking.specs.Line.{isDash, premiseOf};
+ghost use Rattle.derivation_files.specs.Line.{isDash, premiseOf};
 ghost use Rattle.checking.specs.Texts.{textAt};
 ghost use Rattle.checking.specs.Cited.{digitOf, upTo, citedOf, isDashed, isLine, citedFit, startOr};
 use crate::texts::Span;

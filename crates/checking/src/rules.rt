@@ -1,6 +1,6 @@
 // The eight typing rules on texts: what each asks of contexts and types, and the term that it builds.
 ghost use mathlib.Core.Path.{_≡_};
-ghost use Rattle.checking.specs.Line.{names, findName, nameOf};
+ghost use Rattle.derivation_files.specs.Line.{names, findName, nameOf};
 ghost use Rattle.checking.specs.Texts.{textAt};
 ghost use Rattle.checking.specs.Fields.{textsAt};
 ghost use Rattle.checking.specs.TextChecking.{isKnown};

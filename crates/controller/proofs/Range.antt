@@ -17,9 +17,9 @@ use Rattle.stepping.specs.Stepping.{After, Stepped, steppingOf}
 use Rattle.stepping.proofs.Calls as step
 use Rattle.finishing.specs.Finishing as finishing
 use Rattle.finishing.proofs.Calls as finish
-use Rattle.checking.specs.Checking.{checkingOf}
-use Rattle.checking.proofs.Listed.{checking-refused}
-use Rattle.checking.proofs.Files.{accepted-exactly}
+use Rattle.derivation_files.specs.Checking.{checkingOf}
+use Rattle.derivation_files.proofs.Listed.{checking-refused}
+use Rattle.derivation_files.proofs.Files.{accepted-exactly}
 use Rattle.controller.specs.Encoding.{Fields, fields, packed, InRange, stepFields, outcomeCode, finishFields, checkFields, encode, Coded, codedStep, codedFinish}
 use Rattle.controller.proofs.Encoding.{packed-encode}
 

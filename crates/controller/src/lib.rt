@@ -11,7 +11,7 @@ ghost use Rattle.stepping.specs.Stepping.{steppingOf};
 ghost use Rattle.stepping.specs.Answer.{answerOf as steppingAnswer};
 ghost use Rattle.finishing.specs.Finishing.{finishingOf};
 ghost use Rattle.finishing.specs.Answer.{replyOf, outcomeOf, ranOf};
-ghost use Rattle.checking.specs.Checking.{checkingOf};
+ghost use Rattle.derivation_files.specs.Checking.{checkingOf};
 ghost use Rattle.checking.specs.Answer.{answerOf as checkingAnswer};
 ghost use Rattle.controller.specs.Encoding.{fields, packed, refusalFields, stepFields, outcomeCode, finishFields, checkFields, encode, Coded, codedStep, codedFinish};
 

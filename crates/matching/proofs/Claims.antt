@@ -14,11 +14,11 @@ use Rattle.reading.specs.Reply.{Reply}
 use Rattle.slices.specs.Same.{same}
 use Rattle.slices.specs.Split.{lines, fields}
 use Rattle.slices.proofs.Same.{same-equal, equal-same}
-use Rattle.checking.specs.Line.{Line}
-use Rattle.checking.specs.Checking.{checkingOf}
-use Rattle.checking.specs.Accepted.{claimOf, Claims}
-use Rattle.checking.proofs.GoodLines.{judgementFields, restFields, fields-body}
-use Rattle.checking.proofs.Files.{bodies, lines-file, accepted-exactly}
+use Rattle.derivation_files.specs.Line.{Line}
+use Rattle.derivation_files.specs.Checking.{checkingOf}
+use Rattle.derivation_files.specs.Accepted.{claimOf, Claims}
+use Rattle.derivation_files.proofs.GoodLines.{judgementFields, restFields, fields-body}
+use Rattle.derivation_files.proofs.Files.{bodies, lines-file, accepted-exactly}
 use Rattle.matching.specs.Matching.{lastLine, fieldBehind, contextField, typeField, sameClaim, afterBoth, matchingOf}
 
 -- ---- the claim of one file

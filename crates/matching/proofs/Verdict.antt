@@ -9,7 +9,7 @@ use denote.Enum.Declared.{tagOf}
 use Rattle.reading.specs.Reply.{Reply, passedOn}
 use Rattle.slices.specs.Same.{same}
 use Rattle.slices.specs.Split.{lines}
-use Rattle.checking.specs.Checking.{checkingOf}
+use Rattle.derivation_files.specs.Checking.{checkingOf}
 use Rattle.checking.specs.Answer as checking
 use Rattle.checking.specs.declared.Checking.{Checking}
 use Rattle.checking.specs.declared.Checking.the-variants.{FileTooLong, FileEmpty, NoLineEnd, TooManyLines, NotSixFields, Malformed, UnknownRule, BadPremise, NoInstance, Accepted}

@@ -6,7 +6,7 @@ use mathlib.Core.List.{List, [], _∷_}
 use Rattle.reading.specs.Reply.{Reply}
 use Rattle.slices.specs.Same.{same}
 use Rattle.slices.specs.Split.{lines, fields}
-use Rattle.checking.specs.Checking.{checkingOf}
+use Rattle.derivation_files.specs.Checking.{checkingOf}
 
 -- the last line, empty where there is none
 abbrev pub lastLine : List (List ℕ) → List ℕ

@@ -26,13 +26,13 @@ use Rattle.finishing.proofs.Calls as finish
 use Rattle.comparing.specs.Comparing as comparing
 use Rattle.comparing.proofs.Calls as compare
 use Rattle.reading.proofs.Numbers.{reading-refused}
-use Rattle.checking.specs.Line.{Line}
+use Rattle.derivation_files.specs.Line.{Line}
 use Rattle.slices.specs.Split.{lines}
-use Rattle.checking.specs.Checking.{checkingOf}
-use Rattle.checking.proofs.Listed.{checking-refused}
+use Rattle.derivation_files.specs.Checking.{checkingOf}
+use Rattle.derivation_files.proofs.Listed.{checking-refused}
 use Rattle.matching.specs.Matching.{lastLine, sameClaim, afterBoth, matchingOf}
-use Rattle.checking.specs.Accepted.{claimOf}
-use Rattle.checking.proofs.Files.{accepted-exactly, complete, claim-unique, accepted-derivable, derivable-listed}
+use Rattle.derivation_files.specs.Accepted.{claimOf}
+use Rattle.derivation_files.proofs.Files.{accepted-exactly, complete, claim-unique, accepted-derivable, derivable-listed}
 use Rattle.promises.specs.Demands.{StepRefuses, FinishRefuses, Refusals, SteppedTo, RanTo, Steps, Results, Files, Types}
 
 step-refused :

@@ -21,10 +21,10 @@ use Rattle.stepping.specs.Stepping as stepping
 use Rattle.finishing.specs.Finishing as finishing
 use Rattle.comparing.specs.Comparing as comparing
 use Rattle.slices.specs.Split.{lines}
-use Rattle.checking.specs.Line.{Line, fileText}
-use Rattle.checking.specs.Checking.{checkingOf}
+use Rattle.derivation_files.specs.Line.{Line, fileText}
+use Rattle.derivation_files.specs.Checking.{checkingOf}
 use Rattle.matching.specs.Matching.{matchingOf}
-use Rattle.checking.specs.Accepted.{LinesFollow, Accepted, claimOf, Claims}
+use Rattle.derivation_files.specs.Accepted.{LinesFollow, Accepted, claimOf, Claims}
 
 -- the refusals of stepping: 1 to 3 at place 0, and reading's own of the first len bytes
 abbrev pub StepRefuses : (len number place : ℕ) → Type 0

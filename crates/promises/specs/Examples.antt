@@ -9,7 +9,7 @@ use Rattle.calculus.specs.Run.{Outcome}
 use Rattle.reading.specs.Reply.{Reply}
 use Rattle.reading.specs.Reading.{readingOf}
 use Rattle.finishing.specs.Finishing.{Ran, After, finishingOf}
-use Rattle.checking.specs.Checking.{checkingOf}
+use Rattle.derivation_files.specs.Checking.{checkingOf}
 
 -- a call of an operation
 pub data Call : Type 0 where

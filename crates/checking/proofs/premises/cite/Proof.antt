@@ -3,7 +3,7 @@ use native.Mathlib.Omega.{arith}
 use Prim.Native.Nat.{ℕ}
 use mathlib.Core.Path.{sym, _∙_, ap}
 use mathlib.Core.List.{List}
-use Rattle.checking.specs.Line.{premiseOf}
+use Rattle.derivation_files.specs.Line.{premiseOf}
 use Rattle.checking.specs.declared.premises.Cited.the-variants.{Line}
 use Rattle.checking.specs.Cited.{citedOf}
 use Rattle.checking.proofs.Citing.{cite-dash, cite-none, cite-late, cite-line}

@@ -2,7 +2,7 @@
 use Prim.Native.Nat.{ℕ}
 use mathlib.Core.Path.{_∙_, ap}
 use mathlib.Core.List.{List}
-use Rattle.checking.specs.Line.{nameOf}
+use Rattle.derivation_files.specs.Line.{nameOf}
 use Rattle.checking.specs.TextInstance.{ruleOf}
 use Rattle.checking.proofs.Named.{field-one, field-other}
 use borrow.Author.Needs.{needs}

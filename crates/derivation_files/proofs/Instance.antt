@@ -11,7 +11,7 @@ use Rattle.calculus.specs.Types.{Simple, Context, Ty, simpleText, contextText, 
 use Rattle.calculus.specs.Typing.{Judgement, Name, Follows}
 use Rattle.calculus.proofs.PrefixCode.{text-injective}
 use Rattle.types.proofs.Parse.{ty-injective, simple-injective, context-injective}
-use Rattle.checking.specs.Instance.{sameTerm, sameSimple, sameContext, sameTy, asksJ, asksR, asksH, asksA, asksI, asksB, asksS, Premises, withNone, withOne, withTwo, termIn, isInstance}
+use Rattle.derivation_files.specs.Instance.{sameTerm, sameSimple, sameContext, sameTy, asksJ, asksR, asksH, asksA, asksI, asksB, asksS, Premises, withNone, withOne, withTwo, termIn, isInstance}
 
 -- the premises as a list
 abbrev pub listed : Premises → List Judgement

@@ -14,13 +14,13 @@ use Rattle.reading.specs.Reply.{Reply, refuseIf}
 use Rattle.calculus.specs.Typing.{Judgement, Name, Follows}
 use Rattle.calculus.specs.Derivation.{Among, Derivation, Derivable}
 use Rattle.slices.specs.Split.{lines, fields, lastByte}
-use Rattle.checking.specs.Line.{Premise, Line, fileText}
-use Rattle.checking.specs.Instance.{Premises}
-use Rattle.checking.specs.Checking.{Found, earlierLine, foundFields, onward, checkLines, checkingOf}
-use Rattle.checking.specs.Accepted.{Names, LineFollows, LinesFollow, Accepted, claimOf, Claims}
-use Rattle.checking.proofs.Instance.{listed}
-use Rattle.checking.proofs.Split.{AllFree, ended, lines-ended, last-append, last-ended, ended-lines}
-use Rattle.checking.proofs.GoodLines.{body, line-body, free-body, follows-listed, follows-found, found-follows, body-injective}
+use Rattle.derivation_files.specs.Line.{Premise, Line, fileText}
+use Rattle.derivation_files.specs.Instance.{Premises}
+use Rattle.derivation_files.specs.Checking.{Found, earlierLine, foundFields, onward, checkLines, checkingOf}
+use Rattle.derivation_files.specs.Accepted.{Names, LineFollows, LinesFollow, Accepted, claimOf, Claims}
+use Rattle.derivation_files.proofs.Instance.{listed}
+use Rattle.derivation_files.proofs.Split.{AllFree, ended, lines-ended, last-append, last-ended, ended-lines}
+use Rattle.derivation_files.proofs.GoodLines.{body, line-body, free-body, follows-listed, follows-found, found-follows, body-injective}
 
 -- the lines of a file without their bytes 10
 abbrev pub bodies : List Line → List (List ℕ)

@@ -1,6 +1,4 @@
--- The lines of derivation files, as trees and as text.
--- Document 01: "one judgement a line, six fields parted by single tabs, each line ended by byte 10: context, term, type, rule, first
--- premise, second premise. A premise is the decimal number of an earlier line (lines count from 1, no leading zero) or `-`."
+-- The lines of derivation files, as trees and as text (REQUIREMENTS, Derivation files).
 use Prim.Native.Nat.{ℕ}
 use mathlib.Core.Bool.{Bool, true, false}
 use mathlib.Core.List.{List, [], _∷_, _++_}

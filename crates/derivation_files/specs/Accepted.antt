@@ -1,13 +1,14 @@
--- Which files are accepted, in the words of demand 2: "exactly when every line follows, by the one of Jay's eight typing rules that it
--- names, from the earlier lines it names."
+-- Which files are accepted (REQUIREMENTS, Demands): those whose every line follows, by the rule that it names, from the earlier lines
+-- that it names.
 use Prim.Native.Nat.{ℕ, _≤_}
 use mathlib.Core.Path.{_≡_}
 use mathlib.Core.List.{List, [], _∷_, _++_}
 use mathlib.Core.Option.{Option, none, some}
 use lib.ListN.{length}
+use Rattle.calculus.specs.Limits.{fileLimit, lineLimit}
 use Rattle.calculus.specs.Typing.{Judgement, Follows}
-use Rattle.checking.specs.Line.{Premise, Line, fileText}
-use Rattle.checking.specs.Checking.{earlierLine}
+use Rattle.derivation_files.specs.Line.{Premise, Line, fileText}
+use Rattle.derivation_files.specs.Checking.{earlierLine}
 
 -- `Names earlier p q premises`: the two premise fields name those earlier lines, in the order written
 pub data Names (earlier : List Judgement) : Premise → Premise → List Judgement → Type 0 where
@@ -36,8 +37,8 @@ pub record Accepted (file : List ℕ) (n : ℕ) : Type 0 where
   pub written : file ≡ fileText listed
   pub count : length listed ≡ n
   pub some-line : 1 ≤ n
-  pub few-lines : n ≤ 1024
-  pub short : length file ≤ 65536
+  pub few-lines : n ≤ lineLimit
+  pub short : length file ≤ fileLimit
   pub follow : LinesFollow [] listed
 
 -- the judgement of the last line: the claim

@@ -13,9 +13,9 @@ use Rattle.reading.specs.Reply.{Reply, refuseIf, Refuses}
 use Rattle.reading.proofs.Refusing.{passed, passed-on, refused-by}
 use Rattle.calculus.specs.Limits.{lineLimit}
 use Rattle.calculus.specs.Typing.{Judgement, Name}
-use Rattle.checking.specs.Line.{judgementOf, nameOf, premiseOf}
-use Rattle.checking.specs.Instance.{Premises, isInstance}
-use Rattle.checking.specs.Checking.{
+use Rattle.derivation_files.specs.Line.{judgementOf, nameOf, premiseOf}
+use Rattle.derivation_files.specs.Instance.{Premises, isInstance}
+use Rattle.derivation_files.specs.Checking.{
   Found,
   premisesOf,
   premiseCount,

@@ -16,14 +16,14 @@ use Rattle.calculus.proofs.PrefixCode.{termOf-text, text-termOf, text-injective
 use Rattle.types.specs.Parse.{typeOf, contextOf}
 use Rattle.types.proofs.Parse.{typeOf-text, text-typeOf, contextOf-text, text-contextOf, ty-injective, context-injective}
 use Rattle.slices.specs.Split.{fields}
-use Rattle.checking.specs.Line.{Premise, Line, premiseText, judgementText, lineText, judgementIf, judgementOf, names, chosenName, findName, nameOf, premiseOf}
-use Rattle.checking.specs.Instance.{Premises, isInstance}
-use Rattle.checking.specs.Checking.{Found, earlierLine, noPremise, namedPremise, premisesNone, premisesOne, premisesTwo, premiseCount, premisesOf, foundIf, foundInstance, foundName, foundJudgement, foundFields}
-use Rattle.checking.specs.Accepted.{Names, LineFollows}
-use Rattle.checking.proofs.Instance.{listed, instance-follows}
+use Rattle.derivation_files.specs.Line.{Premise, Line, premiseText, judgementText, lineText, judgementIf, judgementOf, names, chosenName, findName, nameOf, premiseOf}
+use Rattle.derivation_files.specs.Instance.{Premises, isInstance}
+use Rattle.derivation_files.specs.Checking.{Found, earlierLine, noPremise, namedPremise, premisesNone, premisesOne, premisesTwo, premiseCount, premisesOf, foundIf, foundInstance, foundName, foundJudgement, foundFields}
+use Rattle.derivation_files.specs.Accepted.{Names, LineFollows}
+use Rattle.derivation_files.proofs.Instance.{listed, instance-follows}
 use Rattle.slices.proofs.Splitting.{Free}
-use Rattle.checking.proofs.Split.{AllFree, free-joined, free-text, free-written, free-name, joined, split-joined, joined-split}
-use Rattle.checking.proofs.Numeral.{Proper, premise-text, text-premise, premise-injective, free-premise}
+use Rattle.derivation_files.proofs.Split.{AllFree, free-joined, free-text, free-written, free-name, joined, split-joined, joined-split}
+use Rattle.derivation_files.proofs.Numeral.{Proper, premise-text, text-premise, premise-injective, free-premise}
 
 -- the fields of a judgement
 abbrev pub judgementFields : Judgement → List (List ℕ)

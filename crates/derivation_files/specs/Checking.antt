@@ -1,7 +1,5 @@
--- Checking a derivation. Document 01: "10: over 65,536 bytes. 11: empty. 12: the last byte is not 10. 13: over 1,024 lines. Then line by
--- line, answering the first bad line: 14 not six fields; 15 context, term or type field not well formed; 16 unknown rule letter; 17 a
--- premise field malformed, not an earlier line, or `-` where a number belongs or the reverse; 18 not an instance of its rule. Numbers
--- 10 to 13 answer line 0. Otherwise accepted, with the line count."
+-- What checking a file answers (REQUIREMENTS, Checking): four tests of the whole file, each with its number, then the lines in turn up to
+-- the first that is bad.
 use Prim.Native.Nat.{ℕ, zero, suc}
 use mathlib.Core.Bool.{Bool, true, false, not}
 use mathlib.Core.List.{List, [], _∷_, _++_}
@@ -9,10 +7,11 @@ use mathlib.Core.Option.{Option, none, some}
 use lib.Dec.{ltb, eqb}
 use lib.ListN.{length}
 use Rattle.reading.specs.Reply.{Reply, refuseIf}
+use Rattle.calculus.specs.Limits.{fileLimit, lineLimit}
 use Rattle.calculus.specs.Typing.{Judgement, Name}
 use Rattle.slices.specs.Split.{lines, fields, lastByte}
-use Rattle.checking.specs.Line.{Premise, judgementOf, nameOf, premiseOf}
-use Rattle.checking.specs.Instance.{Premises, isInstance}
+use Rattle.derivation_files.specs.Line.{Premise, judgementOf, nameOf, premiseOf}
+use Rattle.derivation_files.specs.Instance.{Premises, isInstance}
 
 -- what is found of a line: bad, by that number, or its judgement
 pub data Found : Type 0 where
@@ -110,8 +109,8 @@ checkLines n earlier (line ∷ rest) = onward n (foundFields earlier (fields lin
 -- the number of lines, or the refusal with its line
 unfoldable pub checkingOf : List ℕ → Reply ℕ
 checkingOf file =
-    refuseIf (ltb 65536 (length file)) 10
+    refuseIf (ltb fileLimit (length file)) 10
     (refuseIf (eqb (length file) 0) 11
     (refuseIf (not (eqb (lastByte file) 10)) 12
-    (refuseIf (ltb 1024 (length (lines file))) 13
+    (refuseIf (ltb lineLimit (length (lines file))) 13
     (checkLines 0 [] (lines file)))))

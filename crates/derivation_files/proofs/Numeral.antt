@@ -9,7 +9,7 @@ use lib.Dec.{leb, ltb}
 use borrow.Author.Tests.{leb-true, le-leb, ltb-true, lt-ltb, eqb-true, ne-eqb}
 use native.Mathlib.Omega.{arith}
 use Rattle.slices.specs.Numeral.{isDigit, allDigits, valueFrom, someIf, numberOf, digits, numeral}
-use Rattle.checking.specs.Line.{Premise, premiseText, premiseOr, isDash, premiseOf}
+use Rattle.derivation_files.specs.Line.{Premise, premiseText, premiseOr, isDash, premiseOf}
 use Rattle.slices.proofs.Splitting.{Free}
 use Rattle.slices.proofs.Decimal.{and-both, digits-enough, numeral-tenth, digit-range, value-append, some-if, free-digits}
 

@@ -1,0 +1,4 @@
+pub mod Line
+pub mod Instance
+pub mod Checking
+pub mod Accepted
