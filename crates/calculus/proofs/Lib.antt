@@ -7,4 +7,3 @@ pub mod Derivations
 pub mod Sizes
 pub mod Runs
 pub mod Results
-pub mod Examples

@@ -12,4 +12,3 @@ pub mod Typing
 pub mod Derivation
 pub mod Limits
 pub mod Ascii
-pub mod Examples

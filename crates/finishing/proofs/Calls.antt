@@ -21,6 +21,7 @@ pub record Admits (area : List ℕ) (len : ℕ) (work : List ℕ) (fuel : ℕ) (
   pub areas : Areas area len work
   pub fuelled : fuel ≤ fuelLimit
   pub held : Holds area len t
+  pub admits : admitted area len work fuel ≡ Reply.answered t
 
 pub admitted-held : (area : List ℕ) (len : ℕ) (work : List ℕ) (fuel : ℕ) (t : Term) → admitted area len work fuel ≡ Reply.answered t → Admits area len work fuel t
 admitted-held area len work fuel t e =
@@ -30,6 +31,7 @@ admitted-held area len work fuel t e =
       areas = areas;
       fuelled = ltb-false fuelLimit fuel (passed (ltb fuelLimit fuel) 4 read t f);
       held = record { within = areas .within; written = term-passed (take len area) t (passed-on (ltb fuelLimit fuel) 4 read t f) };
+      admits = e;
     }
 
 -- the refusals of finishing: 1 to 4 at place 0, and reading's own
