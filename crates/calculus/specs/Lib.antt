@@ -1,4 +1,4 @@
--- Document 01 as definitions. A reader who believes these files believes what every promise and theorem is about.
+-- The calculus as definitions. A reader who believes these files believes what every promise and theorem is about.
 pub mod Letter
 pub mod Term
 pub mod Parse
