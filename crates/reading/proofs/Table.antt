@@ -1,15 +1,15 @@
 -- The table of arities: at each of its 256 entries stands the digit of the byte's arity, by one test that antt computes. Assumes nothing.
 use mathlib.Core.Path.{_≡_, _∙_, subst, sym}
 use mathlib.Core.Bool.{Bool, true, false}
-use mathlib.Core.List.{List, [], _∷_, _++_}
+use mathlib.Core.List.{List, [], _∷_}
 use Prim.Native.Nat.{ℕ, zero, suc, _+_, _-_, _<_, _≤_}
 use native.Mathlib.Nat.{add-zero, zero-add, add-suc, suc-add, le-of-suc-le-suc, not-suc-le-zero}
 use native.Mathlib.Omega.{arith}
 use lib.Dec.{T, eqb, eqb→eq, leb, leb→le}
 use lib.ListN.{length, getD}
-use Rattle.calculus.specs.Ascii.{ascii}
 use Rattle.calculus.specs.Letter.{letterOf}
 use Rattle.reading.specs.Arity.{arityOf}
+use Rattle.reading.specs.Table.{arities}
 
 abbrev both : Bool → Bool → Bool
 both true b = b
@@ -38,12 +38,6 @@ from f (x ∷ xs) i t (suc k) h =
 -- a test that passes at each entry passes at any
 at : (f : ℕ → ℕ → Bool) (xs : List ℕ) → T (every f 0 xs) → (k : ℕ) → k < length xs → T (f k (getD xs k 0))
 at f xs t k h = subst (λ (m : ℕ). T (f m (getD xs k 0))) (zero-add k) (from f xs 0 t k h)
-
--- the table as it stands in the code
-abbrev pub arities : List ℕ
-arities =
-    ascii "3333333333333333333333333333333333333333333333233333333333333333" ++ ascii "3223333320033333331333333333333333333333333333333333333333333333"
-    ++ ascii "3333333333333333333333333333333333333333333333333333333333333333" ++ ascii "3333333333333333333333333333333333333333333333333333333333333333"
 
 -- the digit of an arity, which is at most 3
 right : ℕ → ℕ → Bool

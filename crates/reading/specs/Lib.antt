@@ -2,3 +2,4 @@ pub mod Reply
 pub mod Reading
 pub mod Answer
 pub mod Arity
+pub mod Table
