@@ -1,11 +1,12 @@
--- A line's bytes are found good exactly when they are the text of a line that follows from the earlier ones. Carried by the laws that
--- each field is read back as it was written, and that tabs stand only between the fields. Assumes nothing.
+-- A line that follows is found good, and its text is that of no other line. Carried by the laws that each field is read back as it was
+-- written, and that tabs stand only between the fields. Assumes nothing.
 use Prim.Native.Nat.{ℕ, zero, suc, _≤_}
 use mathlib.Core.Path.{_≡_, refl, sym, _∙_, ap, ap₂, subst}
 use mathlib.Core.Bool.{Bool, true, false}
-use mathlib.Core.Option.{Option, none, some, Option·none-ne-some}
+use mathlib.Core.Option.{Option, none, some}
 use mathlib.Core.List.{List, [], _∷_, _++_, append-assoc}
 use lib.Dec.{eqb}
+use lib.ListN.{length}
 use borrow.Author.Tests.{eqb-true}
 use native.Mathlib.Omega.{arith}
 use Rattle.calculus.specs.Term.{Term, text}
@@ -16,14 +17,26 @@ use Rattle.calculus.proofs.PrefixCode.{termOf-text, text-termOf, text-injective
 use Rattle.types.specs.Parse.{typeOf, contextOf}
 use Rattle.types.proofs.Parse.{typeOf-text, text-typeOf, contextOf-text, text-contextOf, ty-injective, context-injective}
 use Rattle.slices.specs.Split.{fields}
-use Rattle.derivation_files.specs.Line.{Premise, Line, premiseText, judgementText, lineText, judgementIf, judgementOf, names, chosenName, findName, nameOf, premiseOf}
+use Rattle.derivation_files.specs.Line.{
+  Premise,
+  Line,
+  premiseText,
+  judgementText,
+  bodyText,
+  judgementIf,
+  judgementOf,
+  names,
+  chosenName,
+  findName,
+  nameOf,
+}
 use Rattle.derivation_files.specs.Instance.{Premises, isInstance}
-use Rattle.derivation_files.specs.Checking.{Found, earlierLine, noPremise, namedPremise, premisesNone, premisesOne, premisesTwo, premiseCount, premisesOf, foundIf, foundInstance, foundName, foundJudgement, foundFields}
+use Rattle.derivation_files.specs.Checking.{Found, earlierLine, premisesOne, premisesTwo, premiseCount, premisesOf, foundFields}
 use Rattle.derivation_files.specs.Accepted.{Names, LineFollows}
 use Rattle.derivation_files.proofs.Instance.{listed, instance-follows}
 use Rattle.slices.proofs.Splitting.{Free}
-use Rattle.derivation_files.proofs.Split.{AllFree, free-joined, free-text, free-written, free-name, joined, split-joined, joined-split}
-use Rattle.derivation_files.proofs.Numeral.{Proper, premise-text, text-premise, premise-injective, free-premise}
+use Rattle.derivation_files.proofs.Split.{AllFree, free-joined, free-text, free-written, free-name, joined, split-joined}
+use Rattle.derivation_files.proofs.Numeral.{Proper, premise-text, premise-injective, free-premise}
 
 -- the fields of a judgement
 abbrev pub judgementFields : Judgement → List (List ℕ)
@@ -45,12 +58,17 @@ body l = joined 9 (lineFields l)
 regroup : (a b c d e : List ℕ) → a ++ b ++ c ++ d ++ e ≡ a ++ (b ++ (c ++ (d ++ e)))
 regroup a b c d e = simp append-assoc
 
--- a line's text is its fields parted by tabs, and byte 10
-pub line-body : (l : Line) → lineText l ≡ body l ++ (10 ∷ [])
-line-body l = ap (λ (s : List ℕ). s ++ (10 ∷ [])) (go (l .judgement))
+-- a line's text without its byte 10 is its fields parted by tabs
+pub body-text : (l : Line) → bodyText l ≡ body l
+body-text l = go (l .judgement)
   where
-    go : (j : Judgement) → judgementText j ++ (9 ∷ nameByte (l .name) ∷ 9 ∷ premiseText (l .first)) ++ (9 ∷ premiseText (l .second)) ≡ joined 9 (judgementFields j ++ restFields l)
-    go (Judgement.judge G t W) = regroup (contextText G) (9 ∷ text t) (9 ∷ tyText W) (9 ∷ nameByte (l .name) ∷ 9 ∷ premiseText (l .first)) (9 ∷ premiseText (l .second))
+    go :
+        (j : Judgement) →
+        judgementText j ++ (9 ∷ nameByte (l .name) ∷ 9 ∷ premiseText (l .first)) ++ (9 ∷ premiseText (l .second))
+        ≡ joined 9 (judgementFields j ++ restFields l)
+    go (Judgement.judge G t W) =
+        regroup (contextText G) (9 ∷ text t) (9 ∷ tyText W) (9 ∷ nameByte (l .name) ∷ 9 ∷ premiseText (l .first))
+        (9 ∷ premiseText (l .second))
 
 -- no tab and no line feed stands in a line's fields
 pub free-fields : (mark : ℕ) → mark ≤ 10 → (l : Line) → AllFree mark (lineFields l)
@@ -70,7 +88,9 @@ free-body l = free-joined 10 9 (lineFields l) (omega arith) (free-fields 10 (ome
 pub fields-body : (l : Line) → fields (body l) ≡ lineFields l
 fields-body l = go (l .judgement) (free-fields 9 (omega arith) l)
   where
-    go : (j : Judgement) → AllFree 9 (judgementFields j ++ restFields l) → fields (joined 9 (judgementFields j ++ restFields l)) ≡ judgementFields j ++ restFields l
+    go :
+        (j : Judgement) → AllFree 9 (judgementFields j ++ restFields l) →
+        fields (joined 9 (judgementFields j ++ restFields l)) ≡ judgementFields j ++ restFields l
     go (Judgement.judge G t W) free = split-joined 9 (contextText G) (text t ∷ tyText W ∷ restFields l) free
 
 -- the name of a name's byte is that name
@@ -90,7 +110,9 @@ byte-find : (b : ℕ) (others : List Name) (name : Name) → findName b others �
 byte-find b [] name e = cc
 byte-find b (x ∷ others) name e = go (eqb b (nameByte x)) refl (byte-find b others name) e
   where
-    go : (t : Bool) → eqb b (nameByte x) ≡ t → (findName b others ≡ some name → nameByte name ≡ b) → chosenName t x (findName b others) ≡ some name → nameByte name ≡ b
+    go :
+        (t : Bool) → eqb b (nameByte x) ≡ t → (findName b others ≡ some name → nameByte name ≡ b) →
+        chosenName t x (findName b others) ≡ some name → nameByte name ≡ b
     go true q later e = let same : b ≡ nameByte x = eqb-true b (nameByte x) q in cc
     go false q later e = later e
 
@@ -110,7 +132,8 @@ pub judgement-text : (G : Context) (t : Term) (W : Ty) → judgementOf (contextT
 judgement-text G t W = rw (contextOf-text G, termOf-text t, typeOf-text W)
 
 -- the fields of the judgement that three fields are of are those fields
-pub text-judgement : (context term type : List ℕ) (j : Judgement) → judgementOf context term type ≡ some j → judgementFields j ≡ context ∷ term ∷ type ∷ []
+pub text-judgement :
+    (context term type : List ℕ) (j : Judgement) → judgementOf context term type ≡ some j → judgementFields j ≡ context ∷ term ∷ type ∷ []
 text-judgement context term type j = go (contextOf context) (termOf term) (typeOf type) refl refl refl
   where
     go :
@@ -126,14 +149,10 @@ text-judgement context term type j = go (contextOf context) (termOf term) (typeO
         let spelt-W : tyText W ≡ type = text-typeOf type W r in
         ap judgementFields (sym found) ∙ cc
 
--- how many premises these are
-abbrev arity : Premises → ℕ
-arity Premises.none = 0
-arity (Premises.one i) = 1
-arity (Premises.two i k) = 2
-
 -- the rule's premises as none, one or two
-pub follows-listed : {name : Name} {premises : List Judgement} {j : Judgement} → Follows name premises j → (ps : Premises) × (listed ps ≡ premises) × (arity ps ≡ premiseCount name)
+pub follows-listed :
+    {name : Name} {premises : List Judgement} {j : Judgement} → Follows name premises j →
+    (ps : Premises) × (listed ps ≡ premises) × (length (listed ps) ≡ premiseCount name)
 follows-listed Follows.by-J = (Premises.none, refl, refl)
 follows-listed Follows.by-R = (Premises.one _, refl, refl)
 follows-listed Follows.by-H = (Premises.two _ _, refl, refl)
@@ -144,7 +163,9 @@ follows-listed Follows.by-B = (Premises.two _ _, refl, refl)
 follows-listed Follows.by-s = (Premises.two _ _, refl, refl)
 
 -- what two fields name is what they are found to name
-names-found : {earlier : List Judgement} {p q : Premise} (ps : Premises) → Names earlier p q (listed ps) → premisesOf (arity ps) earlier (some p) (some q) ≡ some ps
+pub names-found :
+    {earlier : List Judgement} {p q : Premise} (ps : Premises) → Names earlier p q (listed ps) →
+    premisesOf (length (listed ps)) earlier (some p) (some q) ≡ some ps
 names-found Premises.none Names.no-premise = refl
 names-found (Premises.one i) (Names.one-premise e) = ap (λ (o : Option Judgement). premisesOne o true) e
 names-found (Premises.two i k) (Names.two-premises e f) = ap₂ premisesTwo e f
@@ -156,146 +177,48 @@ named-positive (j ∷ earlier) zero i e = let z : _≡_ {A = ℕ} 0 1 = cc in om
 named-positive (j ∷ earlier) (suc n) i e = omega arith
 
 -- fields that name earlier lines are `-` or numbers from 1 upwards
-names-proper : {earlier : List Judgement} {p q : Premise} {premises : List Judgement} → Names earlier p q premises → Proper p × Proper q
+pub names-proper : {earlier : List Judgement} {p q : Premise} {premises : List Judgement} → Names earlier p q premises → Proper p × Proper q
 names-proper Names.no-premise = (tt, tt)
 names-proper {earlier} (Names.one-premise {n} {i} e) = (named-positive earlier n i e, tt)
 names-proper {earlier} (Names.two-premises {m} {n} {i} {k} e f) = (named-positive earlier m i e, named-positive earlier n k f)
 
 -- a line that follows is found good
-pub follows-found : (earlier : List Judgement) (l : Line) → LineFollows earlier l → foundFields earlier (fields (body l)) ≡ Found.good (l .judgement)
+pub follows-found :
+    (earlier : List Judgement) (l : Line) → LineFollows earlier l → foundFields earlier (fields (body l)) ≡ Found.good (l .judgement)
 follows-found earlier l f = ap (foundFields earlier) (fields-body l) ∙ go (l .judgement) (f .follows)
   where
     go : (j : Judgement) → Follows (l .name) (f .premises) j → foundFields earlier (judgementFields j ++ restFields l) ≡ Found.good j
     go (Judgement.judge G t W) follows =
         let (ps, same, count) = follows-listed follows in
         let (proper-first, proper-second) = names-proper (f .named) in
-        let found : premisesOf (arity ps) earlier (some (l .first)) (some (l .second)) ≡ some ps = names-found ps (subst (Names earlier (l .first) (l .second)) (sym same) (f .named)) in
-        let passes : isInstance (l .name) ps (Judgement.judge G t W) ≡ true = instance-follows (l .name) ps (Judgement.judge G t W) .1 (subst (λ (js : List Judgement). Follows (l .name) js (Judgement.judge G t W)) (sym same) follows) in
-        rw (judgement-text G t W, name-byte (l .name), premise-text (l .first) proper-first, premise-text (l .second) proper-second, ← count, found, passes)
-
--- a field that names no premise is `-`
-dash-none : (o : Option Premise) → noPremise o ≡ true → o ≡ some Premise.dash
-dash-none none e = cc
-dash-none (some Premise.dash) e = refl
-dash-none (some (Premise.line n)) e = cc
-
--- a field that names a premise is the number of its line
-line-named : (earlier : List Judgement) (o : Option Premise) (i : Judgement) → namedPremise earlier o ≡ some i → (n : ℕ) × (o ≡ some (Premise.line n)) × (earlierLine earlier n ≡ some i)
-line-named earlier none i e = absurd (Option·none-ne-some _ e)
-line-named earlier (some Premise.dash) i e = absurd (Option·none-ne-some _ e)
-line-named earlier (some (Premise.line n)) i e = (n, refl, e)
-
--- what two fields are found to name is what they name
-found-names :
-    (count : ℕ) (earlier : List Judgement) (o u : Option Premise) (ps : Premises) → premisesOf count earlier o u ≡ some ps →
-    (p : Premise) × (q : Premise) × (o ≡ some p) × (u ≡ some q) × Names earlier p q (listed ps)
-found-names zero earlier o u ps = go (noPremise o) (noPremise u) refl refl
-  where
-    go :
-        (a b : Bool) → noPremise o ≡ a → noPremise u ≡ b → premisesNone a b ≡ some ps →
-        (p : Premise) × (q : Premise) × (o ≡ some p) × (u ≡ some q) × Names earlier p q (listed ps)
-    go true true first second e =
-        let found : Premises.none ≡ ps = cc in
-        (Premise.dash, Premise.dash, dash-none o first, dash-none u second, subst (λ (qs : Premises). Names earlier Premise.dash Premise.dash (listed qs)) found Names.no-premise)
-    go true false first second e = absurd (Option·none-ne-some _ e)
-    go false b first second e = absurd (Option·none-ne-some _ e)
-found-names (suc zero) earlier o u ps = go (namedPremise earlier o) (noPremise u) refl refl
-  where
-    go :
-        (a : Option Judgement) (b : Bool) → namedPremise earlier o ≡ a → noPremise u ≡ b → premisesOne a b ≡ some ps →
-        (p : Premise) × (q : Premise) × (o ≡ some p) × (u ≡ some q) × Names earlier p q (listed ps)
-    go (some i) true first second e =
-        let found : Premises.one i ≡ ps = cc in
-        let (n, same, named) = line-named earlier o i first in
-        (Premise.line n, Premise.dash, same, dash-none u second, subst (λ (qs : Premises). Names earlier (Premise.line n) Premise.dash (listed qs)) found (Names.one-premise named))
-    go (some i) false first second e = absurd (Option·none-ne-some _ e)
-    go none b first second e = absurd (Option·none-ne-some _ e)
-found-names (suc (suc count)) earlier o u ps = go (namedPremise earlier o) (namedPremise earlier u) refl refl
-  where
-    go :
-        (a b : Option Judgement) → namedPremise earlier o ≡ a → namedPremise earlier u ≡ b → premisesTwo a b ≡ some ps →
-        (p : Premise) × (q : Premise) × (o ≡ some p) × (u ≡ some q) × Names earlier p q (listed ps)
-    go (some i) (some k) first second e =
-        let found : Premises.two i k ≡ ps = cc in
-        let (m, same-m, named-m) = line-named earlier o i first in
-        let (n, same-n, named-n) = line-named earlier u k second in
-        (Premise.line m, Premise.line n, same-m, same-n, subst (λ (qs : Premises). Names earlier (Premise.line m) (Premise.line n) (listed qs)) found (Names.two-premises named-m named-n))
-    go (some i) none first second e = absurd (Option·none-ne-some _ e)
-    go none b first second e = absurd (Option·none-ne-some _ e)
-
--- a bad line is not good
-bad-good : {number : ℕ} {j : Judgement} → Found.bad number ≡ Found.good j → ⊥
-bad-good e = let z : _≡_ {A = ℕ} 0 1 = cc in omega arith
-
--- what is found good of its test passed it
-good-test : (t : Bool) (k j : Judgement) → foundIf t k ≡ Found.good j → (t ≡ true) × (k ≡ j)
-good-test true k j e = (refl, cc)
-good-test false k j e = absurd (bad-good e)
-
--- what is found good of its premises has them and is an instance
-good-instance : (name : Name) (k : Judgement) (o : Option Premises) (j : Judgement) → foundInstance name k o ≡ Found.good j → (ps : Premises) × (o ≡ some ps) × (isInstance name ps k ≡ true) × (k ≡ j)
-good-instance name k none j e = absurd (bad-good e)
-good-instance name k (some ps) j e = let (passes, same) = good-test (isInstance name ps k) k j e in (ps, refl, passes, same)
-
--- what is found good of its name has one
-good-name :
-    (earlier : List Judgement) (k : Judgement) (o : Option Name) (first second : List ℕ) (j : Judgement) → foundName earlier k o first second ≡ Found.good j →
-    (name : Name) × (o ≡ some name) × (foundInstance name k (premisesOf (premiseCount name) earlier (premiseOf first) (premiseOf second)) ≡ Found.good j)
-good-name earlier k none first second j e = absurd (bad-good e)
-good-name earlier k (some name) first second j e = (name, refl, e)
-
--- what is found good of its judgement has one
-good-judgement :
-    (earlier : List Judgement) (o : Option Judgement) (name first second : List ℕ) (j : Judgement) → foundJudgement earlier o name first second ≡ Found.good j →
-    (k : Judgement) × (o ≡ some k) × (foundName earlier k (nameOf name) first second ≡ Found.good j)
-good-judgement earlier none name first second j e = absurd (bad-good e)
-good-judgement earlier (some k) name first second j e = (k, refl, e)
-
--- the line that six fields are read as has those fields, parted by tabs
-body-read :
-    (context term type name first second line : List ℕ) → joined 9 (context ∷ term ∷ type ∷ name ∷ first ∷ second ∷ []) ≡ line → (j : Judgement) (n : Name) (p q : Premise) →
-    judgementOf context term type ≡ some j → nameOf name ≡ some n → premiseOf first ≡ some p → premiseOf second ≡ some q →
-    body (record { judgement = j; name = n; first = p; second = q }) ≡ line
-body-read context term type name first second line same j n p q judged named is-p is-q =
-    let spelt-n : nameByte n ∷ [] ≡ name = byte-name name n named in
-    let spelt-p : premiseText p ≡ first = text-premise first p is-p in
-    let spelt-q : premiseText q ≡ second = text-premise second q is-q in
-    let spelt : (nameByte n ∷ []) ∷ premiseText p ∷ premiseText q ∷ [] ≡ name ∷ first ∷ second ∷ [] = cc in
-    ap (joined 9) (ap₂ _++_ (text-judgement context term type j judged) spelt) ∙ same
-
--- a line that is found good is the text of a line that follows
-pub found-follows :
-    (earlier : List Judgement) (line : List ℕ) (j : Judgement) → foundFields earlier (fields line) ≡ Found.good j →
-    (l : Line) × (body l ≡ line) × (l .judgement ≡ j) × LineFollows earlier l
-found-follows earlier line j = go (fields line) (joined-split 9 line)
-  where
-    go : (parts : List (List ℕ)) → joined 9 parts ≡ line → foundFields earlier parts ≡ Found.good j → (l : Line) × (body l ≡ line) × (l .judgement ≡ j) × LineFollows earlier l
-    go [] same e = absurd (bad-good e)
-    go (a ∷ []) same e = absurd (bad-good e)
-    go (a ∷ b ∷ []) same e = absurd (bad-good e)
-    go (a ∷ b ∷ c ∷ []) same e = absurd (bad-good e)
-    go (a ∷ b ∷ c ∷ d ∷ []) same e = absurd (bad-good e)
-    go (a ∷ b ∷ c ∷ d ∷ e′ ∷ []) same e = absurd (bad-good e)
-    go (context ∷ term ∷ type ∷ name ∷ first ∷ second ∷ []) same e =
-        let (k, judged, e₁) = good-judgement earlier (judgementOf context term type) name first second j e in
-        let (n, named, e₂) = good-name earlier k (nameOf name) first second j e₁ in
-        let (ps, premised, passes, same-j) = good-instance n k (premisesOf (premiseCount n) earlier (premiseOf first) (premiseOf second)) j e₂ in
-        let (p, q, is-p, is-q, names-pq) = found-names (premiseCount n) earlier (premiseOf first) (premiseOf second) ps premised in (
-          record { judgement = k; name = n; first = p; second = q },
-          body-read context term type name first second line same k n p q judged named is-p is-q,
-          same-j,
-          record { premises = listed ps; named = names-pq; follows = instance-follows n ps k .0 passes },
+        let found : premisesOf (length (listed ps)) earlier (some (l .first)) (some (l .second)) ≡ some ps =
+        names-found ps (subst (Names earlier (l .first) (l .second)) (sym same) (f .named)) in
+        let passes : isInstance (l .name) ps (Judgement.judge G t W) ≡ true =
+        instance-follows (l .name) ps (Judgement.judge G t W) .1
+        (subst (λ (js : List Judgement). Follows (l .name) js (Judgement.judge G t W)) (sym same) follows) in
+        rw (
+          judgement-text G t W,
+          name-byte (l .name),
+          premise-text (l .first) proper-first,
+          premise-text (l .second) proper-second,
+          ← count,
+          found,
+          passes,
         )
-    go (a ∷ b ∷ c ∷ d ∷ e′ ∷ f ∷ g ∷ more) same e = absurd (bad-good e)
 
 -- lines of the same text are the same
 pub body-injective : (l m : Line) → body l ≡ body m → l ≡ m
-body-injective l m e = go (l .judgement) (m .judgement) (l .name) (m .name) (l .first) (m .first) (l .second) (m .second) (sym (fields-body l) ∙ ap fields e ∙ fields-body m)
+body-injective l m e =
+    go (l .judgement) (m .judgement) (l .name) (m .name) (l .first) (m .first) (l .second) (m .second)
+    (sym (fields-body l) ∙ ap fields e ∙ fields-body m)
   where
     go :
         (j k : Judgement) (n o : Name) (p q r s : Premise) →
-        lineFields (record { judgement = j; name = n; first = p; second = r }) ≡ lineFields (record { judgement = k; name = o; first = q; second = s }) →
-        _≡_ {A = Line} (record { judgement = j; name = n; first = p; second = r }) (record { judgement = k; name = o; first = q; second = s })
+        lineFields (record { judgement = j; name = n; first = p; second = r })
+        ≡ lineFields (record { judgement = k; name = o; first = q; second = s }) →
+        _≡_ {A = Line}
+        (record { judgement = j; name = n; first = p; second = r })
+        (record { judgement = k; name = o; first = q; second = s })
     go (Judgement.judge G t W) (Judgement.judge D u X) n o p q r s e =
         let same-G : G ≡ D = context-injective G D (cc) in
         let same-t : t ≡ u = text-injective t u (cc) in

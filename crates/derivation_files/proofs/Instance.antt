@@ -1,7 +1,7 @@
 -- The test `isInstance` holds exactly when the judgement follows by the rule from its premises: equal texts are those of equal trees,
 -- since the texts are prefix codes. Assumes nothing.
-use mathlib.Core.Path.{_≡_, refl}
-use mathlib.Core.Bool.{Bool, true, false, _&&_, false≢true}
+use mathlib.Core.Path.{_≡_}
+use mathlib.Core.Bool.{Bool, true, _&&_, false≢true}
 use mathlib.Core.List.{List, [], _∷_}
 use mathlib.Core.Logic.{_↔_}
 use Rattle.slices.proofs.Decimal.{and-both}
@@ -11,7 +11,25 @@ use Rattle.calculus.specs.Types.{Simple, Context, Ty, simpleText, contextText, 
 use Rattle.calculus.specs.Typing.{Judgement, Name, Follows}
 use Rattle.calculus.proofs.PrefixCode.{text-injective}
 use Rattle.types.proofs.Parse.{ty-injective, simple-injective, context-injective}
-use Rattle.derivation_files.specs.Instance.{sameTerm, sameSimple, sameContext, sameTy, asksJ, asksR, asksH, asksA, asksI, asksB, asksS, Premises, withNone, withOne, withTwo, termIn, isInstance}
+use Rattle.derivation_files.specs.Instance.{
+  sameTerm,
+  sameSimple,
+  sameContext,
+  sameTy,
+  asksJ,
+  asksR,
+  asksH,
+  asksA,
+  asksI,
+  asksB,
+  asksS,
+  Premises,
+  withNone,
+  withOne,
+  withTwo,
+  termIn,
+  isInstance,
+}
 
 -- the premises as a list
 abbrev pub listed : Premises → List Judgement
@@ -53,7 +71,8 @@ from-one follows (Premises.two i k) e = absurd (false≢true e)
 
 -- the same of two premises
 from-two :
-    {name : Name} {j : Judgement} {a b : Judgement → Judgement → Bool} → ((i k : Judgement) → a i k ≡ true → b i k ≡ true → Follows name (i ∷ k ∷ []) j) →
+    {name : Name} {j : Judgement} {a b : Judgement → Judgement → Bool} →
+    ((i k : Judgement) → a i k ≡ true → b i k ≡ true → Follows name (i ∷ k ∷ []) j) →
     (premises : Premises) → (withTwo a premises && withTwo b premises) ≡ true → Follows name (listed premises) j
 from-two follows Premises.none e = absurd (false≢true e)
 from-two follows (Premises.one i) e = absurd (false≢true e)
@@ -86,12 +105,19 @@ H-follows :
     (G : Context) (t : Term) (W : Ty) (i k : Judgement) →
     asksH i k G W ≡ true → sameTerm t (node (termIn i) (termIn k)) ≡ true → Follows name (i ∷ k ∷ []) (Judgement.judge G t W)
 H-follows name node rule G v W (Judgement.judge D t (Ty.context F)) (Judgement.judge E u X) asked built = absurd (false≢true asked)
-H-follows name node rule G v W (Judgement.judge D t (Ty.simple (Simple.atom a))) (Judgement.judge E u X) asked built = absurd (false≢true asked)
+H-follows name node rule G v W (Judgement.judge D t (Ty.simple (Simple.atom a))) (Judgement.judge E u X) asked built =
+    absurd (false≢true asked)
 H-follows name node rule G v W (Judgement.judge D t (Ty.simple (Simple.arrow U T))) (Judgement.judge E u X) asked built =
     let (rest, same-W) = and-both (sameContext D G && sameContext E G && sameTy X (Ty.simple U)) (sameTy W (Ty.simple T)) asked in
     let (contexts, same-X) = and-both (sameContext D G && sameContext E G) (sameTy X (Ty.simple U)) rest in
     let (same-D, same-E) = and-both (sameContext D G) (sameContext E G) contexts in
-    rw (equal-terms v (node t u) built, equal-contexts D G same-D, equal-contexts E G same-E, equal-types X (Ty.simple U) same-X, equal-types W (Ty.simple T) same-W)
+    rw (
+      equal-terms v (node t u) built,
+      equal-contexts D G same-D,
+      equal-contexts E G same-E,
+      equal-types X (Ty.simple U) same-X,
+      equal-types W (Ty.simple T) same-W,
+    )
     (rule G U T t u)
 
 -- what passes A's tests follows by A
@@ -100,11 +126,18 @@ A-follows :
     asksA i k G W ≡ true → sameTerm t (Term.A (termIn i) (termIn k)) ≡ true → Follows Name.A (i ∷ k ∷ []) (Judgement.judge G t W)
 A-follows G v W (Judgement.judge D s (Ty.simple U)) (Judgement.judge E t X) asked built = absurd (false≢true asked)
 A-follows G v (Ty.context H) (Judgement.judge D s (Ty.context F)) (Judgement.judge E t X) asked built = absurd (false≢true asked)
-A-follows G v (Ty.simple (Simple.atom a)) (Judgement.judge D s (Ty.context F)) (Judgement.judge E t X) asked built = absurd (false≢true asked)
+A-follows G v (Ty.simple (Simple.atom a)) (Judgement.judge D s (Ty.context F)) (Judgement.judge E t X) asked built =
+    absurd (false≢true asked)
 A-follows G v (Ty.simple (Simple.arrow U T)) (Judgement.judge D s (Ty.context F)) (Judgement.judge E t X) asked built =
     let (contexts, same-X) = and-both (sameContext D G && sameContext E (Context.bind U F)) (sameTy X (Ty.simple T)) asked in
     let (same-D, same-E) = and-both (sameContext D G) (sameContext E (Context.bind U F)) contexts in
-    rw (equal-terms v (Term.A s t) built, equal-contexts D G same-D, equal-contexts E (Context.bind U F) same-E, equal-types X (Ty.simple T) same-X) Follows.by-A
+    rw (
+      equal-terms v (Term.A s t) built,
+      equal-contexts D G same-D,
+      equal-contexts E (Context.bind U F) same-E,
+      equal-types X (Ty.simple T) same-X,
+    )
+    Follows.by-A
 
 -- what passes I's tests follows by I
 I-follows : (G : Context) (t : Term) (W : Ty) → asksI G W ≡ true → sameTerm t Term.I ≡ true → Follows Name.I [] (Judgement.judge G t W)
@@ -119,7 +152,13 @@ B-follows G v W (Judgement.judge D u (Ty.simple U)) (Judgement.judge E s (Ty.sim
 B-follows G v W (Judgement.judge D u (Ty.simple U)) (Judgement.judge E s (Ty.context F)) asked built =
     let (contexts, same-W) = and-both (sameContext D G && sameContext E G) (sameTy W (Ty.context (Context.bind U F))) asked in
     let (same-D, same-E) = and-both (sameContext D G) (sameContext E G) contexts in
-    rw (equal-terms v (Term.B u s) built, equal-contexts D G same-D, equal-contexts E G same-E, equal-types W (Ty.context (Context.bind U F)) same-W) Follows.by-B
+    rw (
+      equal-terms v (Term.B u s) built,
+      equal-contexts D G same-D,
+      equal-contexts E G same-E,
+      equal-types W (Ty.context (Context.bind U F)) same-W,
+    )
+    Follows.by-B
 
 -- what passes s's tests follows by s
 s-follows :
@@ -143,7 +182,8 @@ instance-sound Name.B premises (Judgement.judge G t W) = from-two (B-follows G t
 instance-sound Name.s premises (Judgement.judge G t W) = from-two (s-follows G t W) premises
 
 -- a judgement that follows by the rule is an instance of it
-instance-complete : {name : Name} {j : Judgement} (premises : Premises) → Follows name (listed premises) j → isInstance name premises j ≡ true
+instance-complete :
+    {name : Name} {j : Judgement} (premises : Premises) → Follows name (listed premises) j → isInstance name premises j ≡ true
 instance-complete Premises.none Follows.by-J = simp same-refl
 instance-complete Premises.none Follows.by-I = simp same-refl
 instance-complete (Premises.one i) Follows.by-R = simp same-refl
@@ -154,5 +194,6 @@ instance-complete (Premises.two i k) Follows.by-B = simp same-refl
 instance-complete (Premises.two i k) Follows.by-s = simp same-refl
 
 -- a judgement is an instance of the rule exactly when it follows by it from the premises
-pub instance-follows : (name : Name) (premises : Premises) (j : Judgement) → (isInstance name premises j ≡ true) ↔ Follows name (listed premises) j
+pub instance-follows :
+    (name : Name) (premises : Premises) (j : Judgement) → (isInstance name premises j ≡ true) ↔ Follows name (listed premises) j
 instance-follows name premises j = (instance-sound name premises j, instance-complete premises)

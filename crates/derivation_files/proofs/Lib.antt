@@ -3,5 +3,9 @@ pub mod Instance
 pub mod Split
 pub mod Numeral
 pub mod GoodLines
-pub mod Files
+pub mod FoundLines
+pub mod Bodies
+pub mod Checks
 pub mod Listed
+pub mod Files
+pub mod LaidOut

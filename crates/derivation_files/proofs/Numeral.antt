@@ -5,13 +5,13 @@ use mathlib.Core.Path.{_≡_, refl, sym, _∙_, ap, ap₂}
 use mathlib.Core.Bool.{Bool, true, false, _&&_, false≢true}
 use mathlib.Core.Option.{Option, none, some}
 use mathlib.Core.List.{List, [], _∷_, _++_, append-nil, append-assoc}
-use lib.Dec.{leb, ltb}
-use borrow.Author.Tests.{leb-true, le-leb, ltb-true, lt-ltb, eqb-true, ne-eqb}
+use lib.Dec.{ltb}
+use borrow.Author.Tests.{le-leb, ltb-true, lt-ltb, eqb-true, ne-eqb}
 use native.Mathlib.Omega.{arith}
 use Rattle.slices.specs.Numeral.{isDigit, allDigits, valueFrom, someIf, numberOf, digits, numeral}
 use Rattle.derivation_files.specs.Line.{Premise, premiseText, premiseOr, isDash, premiseOf}
 use Rattle.slices.proofs.Splitting.{Free}
-use Rattle.slices.proofs.Decimal.{and-both, digits-enough, numeral-tenth, digit-range, value-append, some-if, free-digits}
+use Rattle.slices.proofs.Decimal.{and-both, numeral-tenth, digit-range, value-append, some-if, free-digits}
 
 -- one digit more behind a number is ten times the number and that digit
 numeral-digit : (m b : ℕ) → 48 ≤ b → b ≤ 57 → 1 ≤ m * 10 + (b - 48) → numeral (m * 10 + (b - 48)) ≡ numeral m ++ (b ∷ [])
@@ -66,7 +66,9 @@ leads-digits zero n some-n enough = absurd (omega arith)
 leads-digits (suc p) zero some-n enough = absurd (omega arith)
 leads-digits (suc p) (suc n) some-n enough = go (suc n / 10) refl (leads-digits p (suc n / 10))
   where
-    go : (tenth : ℕ) → suc n / 10 ≡ tenth → (1 ≤ tenth → tenth ≤ p → Leads (digits p tenth)) → Leads (digits p tenth ++ ((48 + suc n % 10) ∷ []))
+    go :
+        (tenth : ℕ) → suc n / 10 ≡ tenth → (1 ≤ tenth → tenth ≤ p → Leads (digits p tenth)) →
+        Leads (digits p tenth ++ ((48 + suc n % 10) ∷ []))
     go zero e later = rw (digits-none p) (omega arith)
     go (suc m) e later = leads-append (digits p (suc m)) ((48 + suc n % 10) ∷ []) (later (omega arith) (omega arith))
 

@@ -3,15 +3,15 @@
 use Prim.Native.Nat.{ℕ, _≤_, _<_}
 use mathlib.Core.Path.{_≡_, refl, sym, _∙_, ap, ap₂}
 use mathlib.Core.Bool.{Bool, true, false}
-use mathlib.Core.List.{List, [], _∷_, _++_, append-nil}
+use mathlib.Core.List.{List, [], _∷_, _++_}
 use lib.Dec.{eqb}
-use borrow.Author.Tests.{eqb-true, eq-eqb, ne-eqb}
+use borrow.Author.Tests.{eqb-true, eq-eqb}
 use native.Mathlib.Omega.{arith}
 use Rattle.calculus.specs.Term.{Term, text}
 use Rattle.calculus.specs.Types.{Sign, signText, written}
 use Rattle.calculus.specs.Typing.{Name, nameByte}
 use Rattle.slices.specs.Split.{consFirst, cutOr, split, allButLast, lastByte}
-use Rattle.slices.proofs.Splitting.{Free, free-append, split-front, split-piece, split-last}
+use Rattle.slices.proofs.Splitting.{Free, free-append, split-piece, split-last}
 
 -- the mark stands in none of the pieces
 abbrev pub AllFree : (mark : ℕ) → List (List ℕ) → Type 0
@@ -30,17 +30,22 @@ ended mark [] = []
 ended mark (piece ∷ pieces) = piece ++ (mark ∷ ended mark pieces)
 
 -- a mark that stands in none of the pieces, and is not what joins them, stands not in them joined
-pub free-joined : (mark between : ℕ) (pieces : List (List ℕ)) → (between ≡ mark → ⊥) → AllFree mark pieces → Free mark (joined between pieces)
+pub free-joined :
+    (mark between : ℕ) (pieces : List (List ℕ)) → (between ≡ mark → ⊥) → AllFree mark pieces → Free mark (joined between pieces)
 free-joined mark between [] other free = tt
 free-joined mark between (piece ∷ []) other free = free .0
 free-joined mark between (piece ∷ next ∷ pieces) other free =
-    free-append mark piece (between ∷ joined between (next ∷ pieces)) (free .0) (other, free-joined mark between (next ∷ pieces) other (free .1))
+    free-append mark piece (between ∷ joined between (next ∷ pieces)) (free .0)
+    (other, free-joined mark between (next ∷ pieces) other (free .1))
 
 -- pieces in which the mark does not stand, joined by it, are cut into those pieces
-pub split-joined : (mark : ℕ) (piece : List ℕ) (pieces : List (List ℕ)) → AllFree mark (piece ∷ pieces) → split mark (joined mark (piece ∷ pieces)) ≡ piece ∷ pieces
+pub split-joined :
+    (mark : ℕ) (piece : List ℕ) (pieces : List (List ℕ)) → AllFree mark (piece ∷ pieces) →
+    split mark (joined mark (piece ∷ pieces)) ≡ piece ∷ pieces
 split-joined mark piece [] free = split-last mark piece (free .0)
 split-joined mark piece (next ∷ pieces) free =
-    split-piece mark piece (joined mark (next ∷ pieces)) (free .0) ∙ ap (λ (ps : List (List ℕ)). piece ∷ ps) (split-joined mark next pieces (free .1))
+    split-piece mark piece (joined mark (next ∷ pieces)) (free .0)
+    ∙ ap (λ (ps : List (List ℕ)). piece ∷ ps) (split-joined mark next pieces (free .1))
 
 -- the pieces of any bytes, joined by the mark, are those bytes
 pub joined-split : (mark : ℕ) (bytes : List ℕ) → joined mark (split mark bytes) ≡ bytes
@@ -49,13 +54,15 @@ joined-split mark bytes = let (piece, pieces, cut, same) = pieces-of bytes in ap
     longer :
         (b : ℕ) (rest piece : List ℕ) (pieces : List (List ℕ)) → split mark rest ≡ piece ∷ pieces → joined mark (piece ∷ pieces) ≡ rest →
         (t : Bool) → eqb b mark ≡ t →
-        (first : List ℕ) × (others : List (List ℕ)) × (cutOr t b (split mark rest) ≡ first ∷ others) × (joined mark (first ∷ others) ≡ b ∷ rest)
+        (first : List ℕ) × (others : List (List ℕ)) × (cutOr t b (split mark rest) ≡ first ∷ others) ×
+        (joined mark (first ∷ others) ≡ b ∷ rest)
     longer b rest piece pieces cut same true q =
         ([], piece ∷ pieces, ap (λ (ps : List (List ℕ)). [] ∷ ps) cut, ap₂ (λ (c : ℕ) (s : List ℕ). c ∷ s) (sym (eqb-true b mark q)) same)
     longer b rest piece [] cut same false q = (b ∷ piece, [], ap (consFirst b) cut, ap (λ (s : List ℕ). b ∷ s) same)
     longer b rest piece (next ∷ pieces) cut same false q = (b ∷ piece, next ∷ pieces, ap (consFirst b) cut, ap (λ (s : List ℕ). b ∷ s) same)
 
-    pieces-of : (s : List ℕ) → (piece : List ℕ) × (pieces : List (List ℕ)) × (split mark s ≡ piece ∷ pieces) × (joined mark (piece ∷ pieces) ≡ s)
+    pieces-of :
+        (s : List ℕ) → (piece : List ℕ) × (pieces : List (List ℕ)) × (split mark s ≡ piece ∷ pieces) × (joined mark (piece ∷ pieces) ≡ s)
     pieces-of [] = ([], [], refl, refl)
     pieces-of (b ∷ rest) = let (piece, pieces, cut, same) = pieces-of rest in longer b rest piece pieces cut same (eqb b mark) refl
 
@@ -81,17 +88,15 @@ last-append [] b rest = refl
 last-append (c ∷ []) b rest = refl
 last-append (c ∷ d ∷ s) b rest = last-append (d ∷ s) b rest
 
--- the last byte of pieces ended by the mark, with the mark in front, is the mark
-pub last-ended : (mark : ℕ) (pieces : List (List ℕ)) → lastByte (mark ∷ ended mark pieces) ≡ mark
-last-ended mark [] = refl
-last-ended mark (piece ∷ pieces) = last-append (mark ∷ piece) mark (ended mark pieces) ∙ last-ended mark pieces
-
 -- the lines of bytes whose last is the mark, each ended by it, are those bytes
 pub ended-lines : (mark b : ℕ) (bytes : List ℕ) → lastByte (b ∷ bytes) ≡ mark → ended mark (allButLast (split mark (b ∷ bytes))) ≡ b ∷ bytes
-ended-lines mark b [] e = ap (λ (t : Bool). ended mark (allButLast (cutOr t b ([] ∷ [])))) (eq-eqb b mark e) ∙ ap (λ (c : ℕ). c ∷ []) (sym e)
+ended-lines mark b [] e =
+    ap (λ (t : Bool). ended mark (allButLast (cutOr t b ([] ∷ [])))) (eq-eqb b mark e) ∙ ap (λ (c : ℕ). c ∷ []) (sym e)
 ended-lines mark b (c ∷ bytes) e = longer (split mark (c ∷ bytes)) (eqb b mark) refl (ended-lines mark c bytes e)
   where
-    longer : (pieces : List (List ℕ)) (t : Bool) → eqb b mark ≡ t → ended mark (allButLast pieces) ≡ c ∷ bytes → ended mark (allButLast (cutOr t b pieces)) ≡ b ∷ c ∷ bytes
+    longer :
+        (pieces : List (List ℕ)) (t : Bool) → eqb b mark ≡ t → ended mark (allButLast pieces) ≡ c ∷ bytes →
+        ended mark (allButLast (cutOr t b pieces)) ≡ b ∷ c ∷ bytes
     longer [] t q e = cc
     longer (piece ∷ []) t q e = cc
     longer (piece ∷ next ∷ pieces) true q e = ap₂ (λ (d : ℕ) (s : List ℕ). d ∷ s) (sym (eqb-true b mark q)) e

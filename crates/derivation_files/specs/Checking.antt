@@ -1,5 +1,5 @@
 -- What checking a file answers (REQUIREMENTS, Checking): four tests of the whole file, each with its number, then the lines in turn up to
--- the first that is bad.
+-- the first that is bad. It computes; `Checks.antt` says the same as a relation.
 use Prim.Native.Nat.{ℕ, zero, suc}
 use mathlib.Core.Bool.{Bool, true, false, not}
 use mathlib.Core.List.{List, [], _∷_, _++_}
@@ -79,7 +79,8 @@ foundInstance name j (some premises) = foundIf (isInstance name premises j) j
 
 abbrev pub foundName : (earlier : List Judgement) → Judgement → Option Name → (first second : List ℕ) → Found
 foundName earlier j none first second = Found.bad 16
-foundName earlier j (some name) first second = foundInstance name j (premisesOf (premiseCount name) earlier (premiseOf first) (premiseOf second))
+foundName earlier j (some name) first second =
+    foundInstance name j (premisesOf (premiseCount name) earlier (premiseOf first) (premiseOf second))
 
 abbrev pub foundJudgement : (earlier : List Judgement) → Option Judgement → (name first second : List ℕ) → Found
 foundJudgement earlier none name first second = Found.bad 15

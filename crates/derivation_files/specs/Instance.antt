@@ -1,8 +1,7 @@
 -- Whether a judgement is an instance of a rule, given its premises, as a test on trees: what the rule asks of contexts and types, and
 -- that the term is the one that the rule builds of the premises' terms. `proofs/Instance.antt` shows that the test holds exactly when
 -- the judgement follows.
-use mathlib.Core.Bool.{Bool, true, false, _&&_}
-use mathlib.Core.List.{List, [], _∷_}
+use mathlib.Core.Bool.{Bool, false, _&&_}
 use Rattle.slices.specs.Same.{same}
 use Rattle.calculus.specs.Term.{Term, text}
 use Rattle.calculus.specs.Types.{Simple, Context, Ty, simpleText, contextText, tyText}

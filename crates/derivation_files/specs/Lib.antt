@@ -2,3 +2,5 @@ pub mod Line
 pub mod Instance
 pub mod Checking
 pub mod Accepted
+pub mod Checks
+pub mod LaidOut

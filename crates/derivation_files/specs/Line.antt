@@ -1,7 +1,7 @@
 -- The lines of derivation files, as trees and as text (REQUIREMENTS, Derivation files).
 use Prim.Native.Nat.{ℕ}
 use mathlib.Core.Bool.{Bool, true, false}
-use mathlib.Core.List.{List, [], _∷_, _++_}
+use mathlib.Core.List.{List, [], _∷_, _++_, map}
 use mathlib.Core.Option.{Option, none, some}
 use lib.Dec.{eqb}
 use Rattle.calculus.specs.Term.{Term, text}
@@ -29,14 +29,21 @@ premiseText (Premise.line n) = numeral n
 abbrev pub judgementText : Judgement → List ℕ
 judgementText (Judgement.judge G t W) = contextText G ++ (9 ∷ text t) ++ (9 ∷ tyText W)
 
+-- a line without its byte 10
+abbrev pub bodyText : Line → List ℕ
+bodyText l = judgementText (l .judgement) ++ (9 ∷ nameByte (l .name) ∷ 9 ∷ premiseText (l .first)) ++ (9 ∷ premiseText (l .second))
+
 -- a line with its byte 10
 abbrev pub lineText : Line → List ℕ
-lineText l =
-    judgementText (l .judgement) ++ (9 ∷ nameByte (l .name) ∷ 9 ∷ premiseText (l .first)) ++ (9 ∷ premiseText (l .second)) ++ (10 ∷ [])
+lineText l = bodyText l ++ (10 ∷ [])
 
 abbrev pub fileText : List Line → List ℕ
 fileText [] = []
 fileText (l ∷ ls) = lineText l ++ fileText ls
+
+-- the judgements of lines, in the order of the lines
+abbrev pub judgements : List Line → List Judgement
+judgements ls = map (λ (l : Line). l .judgement) ls
 
 -- the judgement of three fields, if they are well formed
 abbrev pub judgementIf : Option Context → Option Term → Option Ty → Option Judgement
