@@ -4,10 +4,10 @@ use Prim.Native.Nat.{ℕ, suc, _+_, _≤_}
 use native.Mathlib.Omega.{arith}
 use mathlib.Core.Path.{_≡_, refl, sym, _∙_, ap, ap₂, subst}
 use mathlib.Core.Bool.{Bool, true, false, not}
-use mathlib.Core.List.{List, [], _∷_, _++_, map, append-nil, append-assoc, List·Memᴰ, List·Memᴰ·head, List·Memᴰ·tail}
+use mathlib.Core.List.{List, [], _∷_, _++_, map, append-nil, append-assoc}
 use borrow.Author.Tests.{ltb-true, ltb-false, lt-ltb, le-ltb, eqb-true, eqb-false, eq-eqb, ne-eqb, not-true, not-false}
 use lib.Dec.{ltb, eqb}
-use lib.ListN.{length, length-append, length-map}
+use lib.ListN.{length, length-append}
 use Rattle.reading.specs.Reply.{Reply, refuseIf}
 use Rattle.calculus.specs.Typing.{Judgement}
 use Rattle.slices.specs.Split.{lines, fields, lastByte}
@@ -80,7 +80,7 @@ walked n earlier (piece ∷ pieces) =
         walked-more n earlier piece pieces j l spelt same follows (checkLines (suc n) (earlier ++ (j ∷ [])) pieces) (later j)
 
 -- lines that follow are walked over
-pub follow-onward :
+follow-onward :
     {earlier : List Judgement} {ls : List Line} (n : ℕ) (pieces : List (List ℕ)) → LinesFollow earlier ls →
     checkLines n earlier (bodies ls ++ pieces) ≡ checkLines (n + length ls) (earlier ++ judgements ls) pieces
 follow-onward {earlier} n pieces LinesFollow.end =

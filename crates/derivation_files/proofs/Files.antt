@@ -58,18 +58,6 @@ claim-unique {j} {k} c d =
     let claims : some j ≡ some k = sym (c .claim) ∙ ap claimOf same ∙ d .claim in
     cc
 
--- some lines have a claim
-lines-claim : (ls : List Line) → 1 ≤ length ls → (j : Judgement) × (claimOf ls ≡ some j)
-lines-claim [] some-line = absurd (omega arith)
-lines-claim (l ∷ []) some-line = (l .judgement, refl)
-lines-claim (l ∷ next ∷ ls) some-line = lines-claim (next ∷ ls) (omega arith)
-
--- an accepted file has a claim
-pub claimed : {file : List ℕ} {n : ℕ} → Accepted file n → (j : Judgement) × Claims file j
-claimed {n = n} a =
-    let (j, claim) = lines-claim (a .listed) (omega arith) in
-    (j, record { lines = n; accepted = a; claim = claim })
-
 -- an earlier line stands among the earlier lines
 earlier-member : (earlier : List Judgement) (n : ℕ) (i : Judgement) → earlierLine earlier n ≡ some i → List·Memᴰ i earlier
 earlier-member [] n i e = absurd (Option·none-ne-some _ e)
@@ -120,3 +108,15 @@ pub accepted-derivable : {file : List ℕ} {j : Judgement} → Claims file j →
 accepted-derivable {j} c =
     let (rest, same) = claim-first (c .accepted .listed) [] j (c .claim) in
     record { earlier = rest; derivation = subst Derivation same (file-derivation (c .accepted .listed) (c .accepted .follow)) }
+
+-- some lines have a claim
+lines-claim : (ls : List Line) → 1 ≤ length ls → (j : Judgement) × (claimOf ls ≡ some j)
+lines-claim [] some-line = absurd (omega arith)
+lines-claim (l ∷ []) some-line = (l .judgement, refl)
+lines-claim (l ∷ next ∷ ls) some-line = lines-claim (next ∷ ls) (omega arith)
+
+-- an accepted file has a claim
+pub claimed : {file : List ℕ} {n : ℕ} → Accepted file n → (j : Judgement) × Claims file j
+claimed {n = n} a =
+    let (j, claim) = lines-claim (a .listed) (omega arith) in
+    (j, record { lines = n; accepted = a; claim = claim })

@@ -28,8 +28,11 @@ use Rattle.comparing.specs.Comparing as comparing
 use Rattle.comparing.proofs.Calls as compare
 use Rattle.slices.specs.Split.{lines}
 use Rattle.derivation_files.specs.Checking.{checkingOf}
+use Rattle.derivation_files.specs.Checks.{ChecksAs}
 use Rattle.derivation_files.proofs.Listed.{checking-refused}
-use Rattle.derivation_files.proofs.Files.{accepted-exactly, claim-unique, accepted-derivable}
+use Rattle.derivation_files.proofs.Files.{accepted-exactly, claim-unique, claimed, accepted-derivable}
+use Rattle.derivation_files.proofs.Checks.{checks-as, checks-as-only}
+use Rattle.derivation_files.proofs.LaidOut.{laid-out}
 use Rattle.matching.specs.Matching.{lastLine, sameClaim, afterBoth, matchingOf}
 use Rattle.matching.proofs.Claims.{match-exactly}
 use Rattle.promises.specs.Demands.{StepRefuses, FinishRefuses, SteppedTo, RanTo, ComparedTo, Demands}
@@ -176,9 +179,12 @@ demands =
           λ first second work first′ second′ work′ len₁ len₂ fuel c e.
           compare-ran (subst (compare.Call first len₁ second len₂ work fuel) e (compare.call first len₁ second len₂ work fuel));
       run-finishes = λ area work len fuel t r. run-finishes;
+      checks = λ file reply. (λ e. subst (ChecksAs file) e (checks-as file), λ c. sym (checks-as-only file reply c));
       accepted-exactly = accepted-exactly;
+      claimed = λ file n. claimed;
       one-claim = λ file j k c d. claim-unique c d;
       claim-derivable = λ file j claims. accepted-derivable claims;
+      laid-out = λ j earlier. laid-out;
       matched = λ first second G D t u W X. match-exactly;
       equal-exactly =
           λ area₁ work₁ area₁′ work₁′ area₂ work₂ area₂′ work₂′ len₁ fuel₁ n₁ s₁ len₂ fuel₂ n₂ s₂ t u held₁ held₂ e₁ e₂.

@@ -27,7 +27,9 @@ use Rattle.finishing.specs.RunOf.{RunOf}
 use Rattle.comparing.specs.Comparing as comparing
 use Rattle.derivation_files.specs.Line.{fileText}
 use Rattle.derivation_files.specs.Checking.{checkingOf}
+use Rattle.derivation_files.specs.Checks.{ChecksAs}
 use Rattle.derivation_files.specs.Accepted.{Accepted, Claims}
+use Rattle.derivation_files.specs.LaidOut.{LaidOut}
 use Rattle.matching.specs.Matching.{matchingOf}
 
 -- the refusals of stepping: 1 to 3 at place 0, and reading's own of the first len bytes
@@ -68,20 +70,20 @@ pub record RanTo (area : List ℕ) (len : ℕ) (work : List ℕ) (fuel : ℕ) (o
 
 -- what comparing did: a run of each term, whose results it compares
 pub record ComparedTo
-    (first : List ℕ) (len₁ : ℕ) (second : List ℕ) (len₂ : ℕ) (work : List ℕ) (fuel : ℕ) (c : comparing.Compared) (first′ second′ work′ : List ℕ) : Type 0
+  (first : List ℕ) (len₁ : ℕ) (second : List ℕ) (len₂ : ℕ) (work : List ℕ) (fuel : ℕ) (c : comparing.Compared) (first′ second′ work′ : List ℕ) : Type 0
   where
-    pub start₁ : Term
-    pub start₂ : Term
-    pub run₁ : Run
-    pub run₂ : Run
-    pub held₁ : Holds first len₁ start₁
-    pub held₂ : Holds second len₂ start₂
-    pub run-of₁ : RunOf first len₁ work fuel start₁ run₁
-    pub run-of₂ : RunOf second len₂ work fuel start₂ run₂
-    pub verdict : comparing.verdict (outcome run₁) (outcome run₂) (text (reached start₁ run₁)) (text (reached start₂ run₂)) ≡ c
-    pub first-holds : first′ ≡ holding (reached start₁ run₁) first
-    pub second-holds : second′ ≡ holding (reached start₂ run₂) second
-    pub work-cleared : work′ ≡ cleared work
+  pub start₁ : Term
+  pub start₂ : Term
+  pub run₁ : Run
+  pub run₂ : Run
+  pub held₁ : Holds first len₁ start₁
+  pub held₂ : Holds second len₂ start₂
+  pub run-of₁ : RunOf first len₁ work fuel start₁ run₁
+  pub run-of₂ : RunOf second len₂ work fuel start₂ run₂
+  pub verdict : comparing.verdict (outcome run₁) (outcome run₂) (text (reached start₁ run₁)) (text (reached start₂ run₂)) ≡ c
+  pub first-holds : first′ ≡ holding (reached start₁ run₁) first
+  pub second-holds : second′ ≡ holding (reached start₂ run₂) second
+  pub work-cleared : work′ ≡ cleared work
 
 pub record Demands : Type 0 where
   -- ---- 1: a reply is a listed one, and a refusal changes no lent byte
@@ -103,7 +105,6 @@ pub record Demands : Type 0 where
   pub matching-refuses :
       (first second : List ℕ) (number line : ℕ) →
       matchingOf first second ≡ Reply.refused number line → CheckRefuses first number line ⊎ CheckRefuses second number line
-  -- what a caller in C decodes is the operation's reply
 
   -- ---- 2: each step, outcome, count and accepted derivation is the one that the papers name
   -- reading's reply is the one that its relation gives
@@ -132,14 +133,18 @@ pub record Demands : Type 0 where
   pub run-finishes :
       (area work : List ℕ) (len fuel : ℕ) (t : Term) (r : Run) → RunOf area len work fuel t r → finishing.finishingOf area len work fuel ≡ finishing.ranFrom t r area work
   -- checking's reply is the one that its relation gives: the first bad line, and in it the first number
+  pub checks : (file : List ℕ) (reply : Reply ℕ) → (checkingOf file ≡ reply) ↔ ChecksAs file reply
   pub accepted-exactly : (file : List ℕ) (n : ℕ) → (checkingOf file ≡ Reply.answered n) ↔ Accepted file n
   -- an accepted file has one claim, and the claim is derivable
+  pub claimed : (file : List ℕ) (n : ℕ) → Accepted file n → (j : Judgement) × Claims file j
   pub one-claim : (file : List ℕ) (j k : Judgement) → Claims file j → Claims file k → j ≡ k
   pub claim-derivable : (file : List ℕ) (j : Judgement) → Claims file j → Derivable j
   -- each derivation is laid out as lines, one a judgement in the same order, and its text is accepted where it fits the limits
+  pub laid-out : (j : Judgement) (earlier : List Judgement) → Derivation (j ∷ earlier) → LaidOut j earlier
   pub matched :
       (first second : List ℕ) (G D : Context) (t u : Term) (W X : Ty) → Claims first (Judgement.judge G t W) → Claims second (Judgement.judge D u X) →
       (matchingOf first second ≡ Reply.answered true) ↔ ((G ≡ D) × (W ≡ X))
+
   -- ---- 3: equal results exactly when the terms turn into each other, and reduction keeps the claimed type
   pub equal-exactly :
       (area₁ work₁ area₁′ work₁′ area₂ work₂ area₂′ work₂′ : List ℕ) (len₁ fuel₁ n₁ s₁ len₂ fuel₂ n₂ s₂ : ℕ) (t u : Term) →
