@@ -1,5 +1,5 @@
 -- The answers of `line::check_line`, test by test, and of what it calls. Assumes nothing.
-use Prim.Native.Nat.{ℕ, zero, suc, _+_}
+use Prim.Native.Nat.{ℕ, zero, suc, _+_, _<_, min}
 use native.Mathlib.Omega.{arith}
 use mathlib.Core.Path.{_≡_, refl, sym, _∙_, ap, ap₂}
 use mathlib.Core.Bool.{Bool, true, false, _&&_}
@@ -8,18 +8,19 @@ use mathlib.Core.Option.{Option, none, some}
 use lib.ListN.{length}
 use Rattle.reading.specs.Reply.{Reply}
 use Rattle.reading.specs.Reading.{atLetter, readingFrom, readingOf}
+use Rattle.calculus.specs.Limits.{lineLimit}
 use Rattle.calculus.specs.Letter.{Letter, letterOf, owed}
 use Rattle.calculus.specs.Term.{Term}
 use Rattle.calculus.specs.Parse.{Item, one, two, push, items, single, termOf}
 use Rattle.types.specs.Tests.{isSome}
-use Rattle.checking.specs.declared.fields.Judged.{Judged}
-use Rattle.checking.specs.declared.fields.SixFields.{SixFields}
-use Rattle.checking.specs.declared.premises.Cited.{Cited}
-use Rattle.checking.specs.declared.rules.Rule.{Rule}
-use Rattle.checking.specs.Fields.{judgedAt, hasSix, textsAt}
-use Rattle.checking.specs.Cited.{isLine, citedFit, startOr}
-use Rattle.checking.specs.TextInstance.{instanceText, countOf}
-use Rattle.checking.specs.TextChecking.{wellFormed, isKnown, instanceAt, isAnswered, unless, replyOf, ruleIn, firstIn, secondIn, lineReply}
+use Rattle.fields.specs.declared.Judged.{Judged}
+use Rattle.fields.specs.declared.SixFields.{SixFields}
+use Rattle.premises.specs.declared.Cited.{Cited}
+use Rattle.instances.specs.declared.Rule.{Rule}
+use Rattle.fields.specs.Fields.{judgedAt, hasSix, textsAt}
+use Rattle.premises.specs.Cited.{citedOf, citedFit, startOr}
+use Rattle.instances.specs.TextInstance.{isKnown, instanceText, countOf}
+use Rattle.checking.specs.TextChecking.{wellFormed, instanceAt, isAnswered, unless, replyOf, ruleIn, firstIn, secondIn, lineReply}
 
 -- ---- the tests of a line, in their order
 
@@ -77,12 +78,11 @@ module _
   pub good : six ≡ true → formed ≡ true → isKnown rule ≡ true → fits ≡ true → inst ≡ true → Reply.answered (n + 1) ≡ lineReply file starts n line
   good p q r s t = sym (held six formed (isKnown rule) fits inst (n + 1) p q r s ∙ ap (λ (u : Bool). tests true true true true u (n + 1)) t) ∙ same-reply
 
--- ---- two premises
+-- ---- premises
 
-pub two-fit : (count : ℕ) (first second : Cited) (r : Bool) → (count ≡ 0 → ⊥) → (count ≡ 1 → ⊥) → r ≡ (isLine first && isLine second) → r ≡ citedFit count first second
-two-fit zero first second r n m e = absurd (n refl)
-two-fit (suc zero) first second r n m e = absurd (m refl)
-two-fit (suc (suc count)) first second r n m e = e
+-- where fewer lines than the limit went before, a field may name any of them
+pub within : (n : ℕ) → n < lineLimit → min n lineLimit ≡ n
+within n h = omega arith
 
 -- ---- a term
 

@@ -23,16 +23,16 @@ use Rattle.slices.specs.Split.{fields}
 use Rattle.derivation_files.specs.Line.{Premise, judgementIf, judgementOf, nameOf, premiseOf}
 use Rattle.derivation_files.specs.Instance.{Premises, isInstance}
 use Rattle.derivation_files.specs.Checking.{Found, earlierLine, noPremise, namedPremise, premisesNone, premisesOne, premisesTwo, premiseCount, premisesOf, foundIf, foundInstance, foundName, foundJudgement, foundFields}
-use Rattle.checking.specs.Texts.{textAt}
-use Rattle.checking.specs.Fields.{judgedAt, sixAt, hasSix, Texts, textsAt}
-use Rattle.checking.specs.Cited.{lineIf, citedOf, isDashed, isLine, citedFit, startOr}
-use Rattle.checking.specs.TextInstance.{ruleOf, instanceText, countOf}
-use Rattle.checking.specs.TextChecking.{wellFormed, isKnown, instanceAt, unless, sixReply, ruleIn, firstIn, secondIn, lineReply}
-use Rattle.checking.specs.declared.fields.SixFields.{SixFields}
-use Rattle.checking.specs.declared.premises.Cited.{Cited}
-use Rattle.checking.specs.declared.premises.Cited.the-variants.{Line, Nothing}
-use Rattle.checking.proofs.TextInstance.{textsOf, instance-none, instance-one, instance-two}
-use Rattle.checking.proofs.Cutting.{firstLine, six-found, six-missed}
+use Rattle.fields.specs.Texts.{textAt}
+use Rattle.fields.specs.Fields.{judgedAt, sixAt, hasSix, Texts, textsAt}
+use Rattle.premises.specs.Cited.{lineIf, citedOf, isDashed, isLine, citedFit, startOr}
+use Rattle.instances.specs.TextInstance.{ruleOf, isKnown, instanceText, countOf}
+use Rattle.checking.specs.TextChecking.{wellFormed, instanceAt, unless, sixReply, ruleIn, firstIn, secondIn, lineReply}
+use Rattle.fields.specs.declared.SixFields.{SixFields}
+use Rattle.premises.specs.declared.Cited.{Cited}
+use Rattle.premises.specs.declared.Cited.the-variants.{Line, Nothing}
+use Rattle.instances.proofs.TextInstance.{textsOf, instance-none, instance-one, instance-two}
+use Rattle.fields.proofs.Cutting.{firstLine, six-found, six-missed}
 
 -- the starts are those of the earlier lines: the texts of each are its judgement's
 abbrev pub Table : (file starts : List ℕ) → List Judgement → Type 0
@@ -250,6 +250,17 @@ module _ (file starts : List ℕ) (n : ℕ) (earlier : List Judgement) (count : 
         type = sym (text-typeOf (mine .type) W r) i;
       }
 
+-- a line that has not six fields
+not-six : (earlier : List Judgement) (fs : List (List ℕ)) → (length fs ≡ 6 → ⊥) → foundFields earlier fs ≡ Found.bad 14
+not-six earlier [] n = refl
+not-six earlier (a ∷ []) n = refl
+not-six earlier (a ∷ b ∷ []) n = refl
+not-six earlier (a ∷ b ∷ c ∷ []) n = refl
+not-six earlier (a ∷ b ∷ c ∷ d ∷ []) n = refl
+not-six earlier (a ∷ b ∷ c ∷ d ∷ e ∷ []) n = refl
+not-six earlier (a ∷ b ∷ c ∷ d ∷ e ∷ f ∷ []) n = absurd (n refl)
+not-six earlier (a ∷ b ∷ c ∷ d ∷ e ∷ f ∷ g ∷ more) n = refl
+
 -- the line that begins at an index comes to what is found of it
 pub line-verdict :
     (file starts : List ℕ) (n : ℕ) (earlier : List Judgement) → length earlier ≡ n → Table file starts earlier → (at : ℕ) →
@@ -273,4 +284,4 @@ line-verdict file starts n earlier count table at = go (hasSix file (sixAt file 
     go false e =
         subst₂
         (λ (t : Bool) (found : Found). Verdict (textsAt (judgedAt file at) file) (n + 1) (unless t 14 (n + 1) onwards) found)
-        (sym e) (sym (six-missed file at earlier e)) (Verdict.bad 14)
+        (sym e) (sym (not-six earlier (fields (firstLine (drop at file))) (six-missed file at e))) (Verdict.bad 14)

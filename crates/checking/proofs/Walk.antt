@@ -12,14 +12,15 @@ use lib.Dec.{eqb, ltb}
 use lib.ListN.{length, getD, drop, set, drop-of-length-le, length-append, length-set}
 use lib.Seq.{drop-cons, getD-set-same, getD-set-other}
 use Rattle.reading.specs.Reply.{Reply, refuseIf}
+use Rattle.calculus.specs.Limits.{fileLimit, lineLimit}
 use Rattle.calculus.specs.Typing.{Judgement}
 use Rattle.slices.specs.Split.{consFirst, cutOr, split, allButLast, lines, fields, lastByte}
 use Rattle.derivation_files.specs.Checking.{Found, earlierLine, foundFields, onward, checkLines, checkingOf}
-use Rattle.checking.specs.Fields.{judgedAt, sixAt, hasSix, Texts, textsAt}
+use Rattle.fields.specs.Fields.{judgedAt, sixAt, hasSix, Texts, textsAt}
 use Rattle.checking.specs.TextChecking.{isAnswered, unless, sixReply, ruleIn, firstIn, secondIn, lineReply}
-use Rattle.checking.specs.declared.fields.SixFields.{SixFields}
-use Rattle.checking.proofs.TextInstance.{textsOf}
-use Rattle.checking.proofs.Cutting.{headOf, tailOf, firstLine, laterPieces, some-piece, six-found, line-ends}
+use Rattle.fields.specs.declared.SixFields.{SixFields}
+use Rattle.instances.proofs.TextInstance.{textsOf}
+use Rattle.fields.proofs.Cutting.{headOf, tailOf, firstLine, laterPieces, some-piece, six-found, line-ends}
 use Rattle.checking.proofs.TextChecking.{Table, Verdict, earlier-none, line-verdict}
 
 -- ---- a line is left
@@ -115,12 +116,12 @@ table-longer file starts earlier j n at count room same table m i e = go (decLe 
 pub record Passed (file starts : List ℕ) (n at : ℕ) : Type 0 where
   pub earlier : List Judgement
   pub count : length earlier ≡ n
-  pub size : length starts ≡ 1024
+  pub size : length starts ≡ lineLimit
   pub table : Table file starts earlier
   pub left : n + length (lines (drop at file)) ≡ length (lines file)
   pub comes : checkLines n earlier (lines (drop at file)) ≡ checkLines 0 [] (lines file)
 
-pub start : (file starts : List ℕ) → length starts ≡ 1024 → Passed file starts 0 0
+pub start : (file starts : List ℕ) → length starts ≡ lineLimit → Passed file starts 0 0
 start file starts size =
     record {
       earlier = [];
@@ -138,7 +139,7 @@ module _ (file starts : List ℕ) (n at : ℕ) (passed : Passed file starts n at
   one-line : lines (drop at file) ≡ firstLine (drop at file) ∷ allButLast (laterPieces (drop at file))
   one-line = lines-first (drop at file) (line-left file at last within)
 
-  pub room : length (lines file) ≤ 1024 → n < 1024
+  pub room : length (lines file) ≤ lineLimit → n < lineLimit
   room few = let one = ap length one-line in omega (arith, passed .left)
 
   verdict :
@@ -153,7 +154,7 @@ module _ (file starts : List ℕ) (n at : ℕ) (passed : Passed file starts n at
 
   -- behind a good line
   pub again :
-      isAnswered (lineReply file starts n (sixAt file at)) ≡ true → length (lines file) ≤ 1024 →
+      isAnswered (lineReply file starts n (sixAt file at)) ≡ true → length (lines file) ≤ lineLimit →
       (sixAt file at .second .to < length file) × Passed file (set starts n at) (n + 1) (sixAt file at .second .to + 1)
   again answer few =
       let (ends, later) = line-ends file at (answered-six file starts n (sixAt file at) answer) (line-left file at last within) in
@@ -219,30 +220,30 @@ refusals long empty unended many other = refuseIf long 10 (refuseIf empty 11 (re
 
 module _ (file : List ℕ) where
   whole :
-      (long empty feed many : Bool) → ltb 65536 (length file) ≡ long → eqb (length file) 0 ≡ empty → eqb (lastByte file) 10 ≡ feed →
-      ltb 1024 (length (lines file)) ≡ many → refusals long empty (not feed) many (checkLines 0 [] (lines file)) ≡ checkingOf file
+      (long empty feed many : Bool) → ltb fileLimit (length file) ≡ long → eqb (length file) 0 ≡ empty → eqb (lastByte file) 10 ≡ feed →
+      ltb lineLimit (length (lines file)) ≡ many → refusals long empty (not feed) many (checkLines 0 [] (lines file)) ≡ checkingOf file
   unfolding checkingOf
   whole long empty feed many p q r t =
-      sym (ap₂ (λ (a b : Bool). refusals a b (not (eqb (lastByte file) 10)) (ltb 1024 (length (lines file))) (checkLines 0 [] (lines file))) p q ∙
+      sym (ap₂ (λ (a b : Bool). refusals a b (not (eqb (lastByte file) 10)) (ltb lineLimit (length (lines file))) (checkLines 0 [] (lines file))) p q ∙
       ap₂ (λ (a b : Bool). refusals long empty (not a) b (checkLines 0 [] (lines file))) r t)
 
-  pub too-long : 65536 < length file → Reply.refused 10 0 ≡ checkingOf file
-  too-long h = whole true (eqb (length file) 0) (eqb (lastByte file) 10) (ltb 1024 (length (lines file))) (lt-ltb 65536 (length file) h) refl refl refl
+  pub too-long : fileLimit < length file → Reply.refused 10 0 ≡ checkingOf file
+  too-long h = whole true (eqb (length file) 0) (eqb (lastByte file) 10) (ltb lineLimit (length (lines file))) (lt-ltb fileLimit (length file) h) refl refl refl
 
-  pub is-empty : length file ≤ 65536 → length file ≡ 0 → Reply.refused 11 0 ≡ checkingOf file
-  is-empty h e = whole false true (eqb (lastByte file) 10) (ltb 1024 (length (lines file))) (le-ltb 65536 (length file) h) (eq-eqb (length file) 0 e) refl refl
+  pub is-empty : length file ≤ fileLimit → length file ≡ 0 → Reply.refused 11 0 ≡ checkingOf file
+  is-empty h e = whole false true (eqb (lastByte file) 10) (ltb lineLimit (length (lines file))) (le-ltb fileLimit (length file) h) (eq-eqb (length file) 0 e) refl refl
 
-  module _ (short : length file ≤ 65536) (some-byte : length file ≡ 0 → ⊥) where
+  module _ (short : length file ≤ fileLimit) (some-byte : length file ≡ 0 → ⊥) where
     pub no-line-end : (lastByte file ≡ 10 → ⊥) → Reply.refused 12 0 ≡ checkingOf file
     no-line-end n =
-        whole false false false (ltb 1024 (length (lines file))) (le-ltb 65536 (length file) short) (ne-eqb (length file) 0 some-byte) (ne-eqb (lastByte file) 10 n) refl
+        whole false false false (ltb lineLimit (length (lines file))) (le-ltb fileLimit (length file) short) (ne-eqb (length file) 0 some-byte) (ne-eqb (lastByte file) 10 n) refl
 
-    pub too-many : lastByte file ≡ 10 → 1024 < length (lines file) → Reply.refused 13 0 ≡ checkingOf file
+    pub too-many : lastByte file ≡ 10 → lineLimit < length (lines file) → Reply.refused 13 0 ≡ checkingOf file
     too-many e h =
-        whole false false true true (le-ltb 65536 (length file) short) (ne-eqb (length file) 0 some-byte) (eq-eqb (lastByte file) 10 e)
-        (lt-ltb 1024 (length (lines file)) h)
+        whole false false true true (le-ltb fileLimit (length file) short) (ne-eqb (length file) 0 some-byte) (eq-eqb (lastByte file) 10 e)
+        (lt-ltb lineLimit (length (lines file)) h)
 
-    pub line-by-line : lastByte file ≡ 10 → length (lines file) ≤ 1024 → checkLines 0 [] (lines file) ≡ checkingOf file
+    pub line-by-line : lastByte file ≡ 10 → length (lines file) ≤ lineLimit → checkLines 0 [] (lines file) ≡ checkingOf file
     line-by-line e h =
-        whole false false true false (le-ltb 65536 (length file) short) (ne-eqb (length file) 0 some-byte) (eq-eqb (lastByte file) 10 e)
-        (le-ltb 1024 (length (lines file)) h)
+        whole false false true false (le-ltb fileLimit (length file) short) (ne-eqb (length file) 0 some-byte) (eq-eqb (lastByte file) 10 e)
+        (le-ltb lineLimit (length (lines file)) h)

@@ -1,15 +1,12 @@
 // Checking derivation files; what they are and what is answered stands in derivation_files.
-mod fields;
 mod line;
-mod premises;
-mod rules;
-mod texts;
 
 ghost use mathlib.Core.Path.{_≡_};
 ghost use Prim.Native.Nat.{_≤_};
 ghost use mathlib.Core.List.{[]};
 ghost use lib.ListN.{length};
 ghost use Rattle.reading.specs.Reply.{numberIn, placeIn};
+ghost use Rattle.calculus.specs.Limits.{lineLimit};
 ghost use Rattle.slices.specs.Split.{lines, lastByte};
 ghost use Rattle.derivation_files.specs.Checking.{checkLines, checkingOf};
 ghost use Rattle.checking.specs.Answer.{answerOf};
@@ -113,7 +110,7 @@ fn line_count(file: &[u8]) -> usize
 
 // Line by line: the first bad line, or accepted with their number. Of the lines passed it keeps where they begin.
 fn check_lines(file: &[u8]) -> Checking
-    requires { ⌜ (lastByte (now file) ≡ 10) × (length (lines (now file)) ≤ 1024) ⌝ }
+    requires { ⌜ (lastByte (now file) ≡ 10) × (length (lines (now file)) ≤ lineLimit) ⌝ }
     ensures { λ r. ⌜ answerOf r ≡ checkLines 0 [] (lines (now (file .entry))) ⌝ }
 {
     let mut starts = [0usize; calculus::LINE_LIMIT];

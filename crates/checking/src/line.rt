@@ -1,32 +1,32 @@
 // One line of a derivation file.
 ghost use mathlib.Core.Path.{_≡_};
 ghost use Prim.Native.Nat.{_<_};
+ghost use Rattle.calculus.specs.Limits.{lineLimit};
 ghost use Rattle.calculus.specs.Parse.{termOf};
 ghost use Rattle.types.specs.Tests.{isSome};
 ghost use Rattle.checking.specs.Answer.{answerOf};
-ghost use Rattle.checking.specs.Fields.{textsAt};
+ghost use Rattle.fields.specs.Fields.{textsAt};
 ghost use Rattle.checking.specs.TextChecking.{wellFormed, instanceAt, isAnswered, lineReply};
 use crate::Checking;
-use crate::fields::Judged;
-use crate::fields::SixFields;
-use crate::fields::has_six;
-use crate::fields::judged_at;
-use crate::premises::Cited;
-use crate::premises::cite;
-use crate::premises::premises_fit;
-use crate::premises::start_or;
-use crate::rules::Rule;
-use crate::rules::asks;
-use crate::rules::builds;
-use crate::rules::is_known;
-use crate::rules::premise_count;
-use crate::rules::rule_of;
-use crate::texts::bytes_of;
+use fields::Judged;
+use fields::SixFields;
+use fields::has_six;
+use fields::judged_at;
+use fields::texts::bytes_of;
+use instances::Rule;
+use instances::is_instance;
+use instances::is_known;
+use instances::premise_count;
+use instances::rule_of;
+use premises::Cited;
+use premises::cite;
+use premises::premises_fit;
+use premises::start_or;
 use reading::Reading;
 
 // A line of those fields, where `n` lines went before, which begin at `starts`: its refusal, or accepted with its number.
 pub(crate) fn check_line(file: &[u8], starts: &[usize], n: usize, line: SixFields) -> Checking
-    requires { ⌜ n < 1024 ⌝ }
+    requires { ⌜ n < lineLimit ⌝ }
     ensures { λ r. ⌜ answerOf r ≡ lineReply (now (file .entry)) (now (starts .entry)) n line ⌝ }
 {
     if !has_six(file, line) {
@@ -45,7 +45,7 @@ pub(crate) fn check_line(file: &[u8], starts: &[usize], n: usize, line: SixField
     if !premises_fit(premise_count(rule), first, second) {
         return Checking::BadPremise(n + 1);
     }
-    if !is_instance(file, rule, own, first, second) {
+    if !follows(file, rule, own, first, second) {
         return Checking::NoInstance(n + 1);
     }
     Checking::Accepted(n + 1)
@@ -91,10 +91,10 @@ fn is_term(s: &[u8]) -> bool
 }
 
 // Whether the line is an instance of the rule, with the lines that are named for premises.
-fn is_instance(file: &[u8], rule: Rule, own: Judged, first: Cited, second: Cited) -> bool
+fn follows(file: &[u8], rule: Rule, own: Judged, first: Cited, second: Cited) -> bool
     ensures { λ r. ⌜ r ≡ instanceAt (now (file .entry)) rule own first second ⌝ }
 {
     let i = judged_at(file, start_or(first, file.len()));
     let k = judged_at(file, start_or(second, file.len()));
-    asks(file, rule, own, i, k) && builds(file, rule, own.term, i.term, k.term)
+    is_instance(file, rule, own, i, k)
 }

@@ -6,10 +6,11 @@ use mathlib.Core.Path.{_≡_, sym, _∙_, ap, subst}
 use native.Mathlib.Omega.{arith}
 use borrow.Author.Tests.{not-true, not-false}
 use lib.ListN.{length, set, replicate, length-replicate}
+use Rattle.calculus.specs.Limits.{lineLimit}
 use Rattle.checking.specs.Answer.{answerOf}
-use Rattle.checking.specs.Fields.{sixAt}
+use Rattle.fields.specs.Fields.{sixAt}
 use Rattle.checking.specs.TextChecking.{isAnswered, lineReply}
-use Rattle.checking.specs.declared.fields.SixFields.{SixFields}
+use Rattle.fields.specs.declared.SixFields.{SixFields}
 use Rattle.checking.proofs.Walk.{Passed, start, at-end, room, refused, again}
 use Rattle.checking.proofs.check_lines.Statement.{statement}
 use Rattle.checking.proofs.check_lines.Tie as tie
@@ -18,10 +19,10 @@ abbrev Inv-loop : tie.InvT-loop
 Inv-loop file starts₀ n₀ at₀ starts n at = Passed file starts n at
 
 abbrev μ-loop : tie.MeasureT-loop
-μ-loop file starts₀ n₀ at₀ starts n at = 1024 - n
+μ-loop file starts₀ n₀ at₀ starts n at = lineLimit - n
 
 loop-holds : tie.Need-loop-holds Inv-loop μ-loop
-loop-holds c = start (c .before .args .file .now) (replicate 1024 0) (length-replicate {A = ℕ} 1024 0)
+loop-holds c = start (c .before .args .file .now) (replicate lineLimit 0) (length-replicate {A = ℕ} lineLimit 0)
 
 six-at-requires : tie.Need-six-at-requires Inv-loop μ-loop
 six-at-requires c κs = search needs

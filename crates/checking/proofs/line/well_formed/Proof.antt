@@ -6,7 +6,7 @@ use mathlib.Core.Logic.{⊎-elim, inl, inr}
 use Rattle.calculus.specs.Parse.{termOf}
 use Rattle.types.specs.Parse.{typeOf, contextOf}
 use Rattle.types.specs.Tests.{isSome}
-use Rattle.checking.proofs.Tests.{three-made, three-missed}
+use Rattle.fields.proofs.Tests.{three-made, three-missed}
 use borrow.Author.Needs.{needs}
 use Rattle.checking.proofs.line.well_formed.Statement.{statement}
 use Rattle.checking.proofs.line.well_formed.Tie as tie

@@ -1,0 +1,37 @@
+-- `line::follows` meets its contract: the texts tested are those of the lines named. Assumes nothing.
+use Rattle.checking.proofs.Replied.{instance-named}
+use borrow.Author.Needs.{needs}
+use Rattle.checking.proofs.line.follows.Statement.{statement}
+use Rattle.checking.proofs.line.follows.Tie as tie
+
+start-or-requires : tie.Need-start-or-requires
+start-or-requires c κs = search needs
+
+judged-at-requires : tie.Need-judged-at-requires
+judged-at-requires c κs = search needs
+
+start-or-requires-2 : tie.Need-start-or-requires-2
+start-or-requires-2 c κs = search needs
+
+judged-at-requires-2 : tie.Need-judged-at-requires-2
+judged-at-requires-2 c κs = search needs
+
+is-instance-requires : tie.Need-is-instance-requires
+is-instance-requires c κs = search needs
+
+returns : tie.Need-returns
+returns c =
+    instance-named (c .before .before .before .before .before .before .args .file .now) (c .before .before .before .before .before .before .args .rule) (c .before .before .before .before .before .before .args .own) (c .before .before .before .judged-at .result) (c .before .judged-at2 .result) (c .before .before .before .before .before .before .args .first) (c .before .before .before .before .before .before .args .second)
+    (c .before .before .before .before .start-or .result) (c .before .before .start-or2 .result) (c .is-instance .result) (c .before .before .before .before .start-or .ensures) (c .before .before .before .judged-at .ensures) (c .before .before .start-or2 .ensures) (c .before .judged-at2 .ensures)
+    (c .is-instance .ensures)
+
+pub follows-spec : {M : Type 1} → statement M
+follows-spec =
+    tie.close
+    (tie.spec
+    start-or-requires
+    judged-at-requires
+    start-or-requires-2
+    judged-at-requires-2
+    is-instance-requires
+    returns)

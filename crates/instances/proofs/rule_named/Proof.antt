@@ -1,0 +1,46 @@
+-- `instances::rule_named` meets its contract: each test names a rule. Assumes nothing.
+use Rattle.calculus.specs.Typing.{Name}
+use Rattle.instances.proofs.Named.{named, unnamed, other}
+use Rattle.instances.proofs.rule_named.Statement.{statement}
+use Rattle.instances.proofs.rule_named.Tie as tie
+
+returns : tie.Need-returns
+returns c = named Name.J (c .before .args .b) (c .if1 .taken)
+
+returns-2 : tie.Need-returns-2
+returns-2 c = named Name.R (c .before .before .args .b) (c .if2 .taken)
+
+returns-3 : tie.Need-returns-3
+returns-3 c = named Name.H (c .before .before .before .args .b) (c .if3 .taken)
+
+returns-4 : tie.Need-returns-4
+returns-4 c = named Name.A (c .before .before .before .before .args .b) (c .if4 .taken)
+
+returns-5 : tie.Need-returns-5
+returns-5 c = named Name.f (c .before .before .before .before .before .args .b) (c .if5 .taken)
+
+returns-6 : tie.Need-returns-6
+returns-6 c = named Name.I (c .before .before .before .before .before .before .args .b) (c .if6 .taken)
+
+returns-7 : tie.Need-returns-7
+returns-7 c = named Name.B (c .before .before .before .before .before .before .before .args .b) (c .if7 .taken)
+
+returns-8 : tie.Need-returns-8
+returns-8 c = named Name.s (c .before .before .before .before .before .before .before .before .args .b) (c .if8 .taken)
+
+returns-9 : tie.Need-returns-9
+returns-9 c = unnamed (c .before .before .before .before .before .before .before .before .args .b) (other (c .before .before .before .before .before .before .before .before .args .b) (c .before .before .before .before .before .before .before .if1 .left) (c .before .before .before .before .before .before .if2 .left) (c .before .before .before .before .before .if3 .left) (c .before .before .before .before .if4 .left) (c .before .before .before .if5 .left) (c .before .before .if6 .left) (c .before .if7 .left) (c .if8 .left))
+
+pub rule-named-spec : {M : Type 1} → statement M
+rule-named-spec =
+    tie.close
+    (tie.spec
+    returns
+    returns-2
+    returns-3
+    returns-4
+    returns-5
+    returns-6
+    returns-7
+    returns-8
+    returns-9)
