@@ -1,4 +1,5 @@
 -- The laws that the code's proofs cite.
 pub mod Replied
 pub mod TextChecking
+pub mod Claimed
 pub mod Walk

@@ -24,7 +24,7 @@ use Rattle.checking.specs.TextChecking.{wellFormed, instanceAt, isAnswer
 
 -- ---- the tests of a line, in their order
 
-abbrev tests : (a b c d e : Bool) → ℕ → Reply ℕ
+abbrev pub tests : (a b c d e : Bool) → ℕ → Reply ℕ
 tests a b c d e line = unless a 14 line (unless b 15 line (unless c 16 line (unless d 17 line (unless e 18 line (Reply.answered line)))))
 
 -- where the first tests held, the reply is what the others say

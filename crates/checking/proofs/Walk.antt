@@ -11,13 +11,19 @@ use borrow.Author.Tests.{eq-eqb, ne-eqb, lt-ltb, le-ltb}
 use lib.Dec.{eqb, ltb}
 use lib.ListN.{length, getD, drop, set, drop-of-length-le, length-append, length-set}
 use lib.Seq.{drop-cons, getD-set-same, getD-set-other}
-use Rattle.reading.specs.Reply.{Reply, refuseIf}
+use Rattle.reading.specs.Reply.{Reply, numberIn, refuseIf}
 use Rattle.calculus.specs.Limits.{fileLimit, lineLimit}
 use Rattle.calculus.specs.Typing.{Judgement}
 use Rattle.slices.specs.Split.{consFirst, cutOr, split, allButLast, lines, fields, lastByte}
 use Rattle.derivation_files.specs.Checking.{Found, earlierLine, foundFields, onward, checkLines, checkingOf}
 use Rattle.fields.specs.Fields.{judgedAt, sixAt, hasSix, Texts, textsAt}
-use Rattle.checking.specs.TextChecking.{isAnswered, unless, sixReply, ruleIn, firstIn, secondIn, lineReply}
+use Rattle.checking.specs.TextChecking.{wellFormed, instanceAt, isAnswered, unless, sixReply, ruleIn, firstIn, secondIn, lineReply}
+use Rattle.premises.specs.Cited.{citedFit}
+use Rattle.instances.specs.TextInstance.{isKnown, countOf}
+use Rattle.checking.specs.Claim.{claimTexts, nowhere}
+use Rattle.fields.specs.declared.Judged.{Judged}
+use Rattle.checking.proofs.Claimed.{Claimed, claim-start, claim-next, claim-end}
+use Rattle.checking.proofs.Replied.{tests}
 use Rattle.fields.specs.declared.SixFields.{SixFields}
 use Rattle.instances.proofs.TextInstance.{textsOf}
 use Rattle.fields.proofs.Cutting.{headOf, tailOf, firstLine, laterPieces, some-piece, six-found, line-ends}
@@ -71,6 +77,22 @@ found-good :
 found-good own line reply found (Verdict.good j e) answer = (j, e, refl)
 found-good own line reply found (Verdict.bad number) answer = absurd (false≢true answer)
 
+-- a line that is not refused is answered: a refusal has a number
+pub unrefused : (file starts : List ℕ) (n : ℕ) (line : SixFields) → numberIn (lineReply file starts n line) ≡ 0 → isAnswered (lineReply file starts n line) ≡ true
+unfolding lineReply
+unrefused file starts n line =
+    go (hasSix file line) (wellFormed (textsAt (line .own) file)) (isKnown (ruleIn file line))
+    (citedFit (countOf (ruleIn file line)) (firstIn file starts n line) (secondIn file starts n line))
+    (instanceAt file (ruleIn file line) (line .own) (firstIn file starts n line) (secondIn file starts n line))
+  where
+    go : (a b c d e : Bool) → numberIn (tests a b c d e (n + 1)) ≡ 0 → isAnswered (tests a b c d e (n + 1)) ≡ true
+    go false b c d e z = absurd (omega arith)
+    go true false c d e z = absurd (omega arith)
+    go true true false d e z = absurd (omega arith)
+    go true true true false e z = absurd (omega arith)
+    go true true true true false z = absurd (omega arith)
+    go true true true true true z = refl
+
 -- a good line has six fields
 answered-six : (file starts : List ℕ) (n : ℕ) (line : SixFields) → isAnswered (lineReply file starts n line) ≡ true → hasSix file line ≡ true
 unfolding lineReply
@@ -112,16 +134,17 @@ table-longer file starts earlier j n at count room same table m i e = go (decLe 
 
 -- ---- the lines passed
 
--- n lines were passed, each of them good, and the next begins at `at`; what is to come decides the whole
-pub record Passed (file starts : List ℕ) (n at : ℕ) : Type 0 where
+-- n lines were passed, each of them good, the last with that claim, and the next begins at `at`; what is to come decides the whole
+pub record Passed (file starts : List ℕ) (n at : ℕ) (claim : Judged) : Type 0 where
   pub earlier : List Judgement
   pub count : length earlier ≡ n
   pub size : length starts ≡ lineLimit
   pub table : Table file starts earlier
   pub left : n + length (lines (drop at file)) ≡ length (lines file)
   pub comes : checkLines n earlier (lines (drop at file)) ≡ checkLines 0 [] (lines file)
+  pub claimed : Claimed file claim at
 
-pub start : (file starts : List ℕ) → length starts ≡ lineLimit → Passed file starts 0 0
+pub start : (file starts : List ℕ) → length starts ≡ lineLimit → Passed file starts 0 0 nowhere
 start file starts size =
     record {
       earlier = [];
@@ -130,12 +153,25 @@ start file starts size =
       table = λ m i e. cc;
       left = omega arith;
       comes = refl;
+      claimed = claim-start file;
     }
 
-pub at-end : (file starts : List ℕ) (n at : ℕ) → Passed file starts n at → length file ≤ at → Reply.answered n ≡ checkLines 0 [] (lines file)
-at-end file starts n at passed h = ap (λ (l : List ℕ). checkLines n (passed .earlier) (lines l)) (sym (drop-of-length-le file h)) ∙ passed .comes
+-- what the code answers behind the last line
+pub at-end :
+    (file starts : List ℕ) (n at : ℕ) (claim : Judged) → Passed file starts n at claim → length file ≤ at →
+    (Reply.answered n ≡ checkLines 0 [] (lines file)) × (textsAt claim file ≡ claimTexts (checkLines 0 [] (lines file)) file)
+at-end file starts n at claim passed h =
+    let whole : Reply.answered n ≡ checkLines 0 [] (lines file) =
+    ap (λ (l : List ℕ). checkLines n (passed .earlier) (lines l)) (sym (drop-of-length-le file h)) ∙ passed .comes in
+    (whole, claim-end file claim n at (checkLines 0 [] (lines file)) (passed .claimed) h whole)
 
-module _ (file starts : List ℕ) (n at : ℕ) (passed : Passed file starts n at) (last : lastByte file ≡ 10) (within : at < length file) where
+module _
+    (file starts : List ℕ)
+    (n at : ℕ)
+    (claim : Judged)
+    (passed : Passed file starts n at claim)
+    (last : lastByte file ≡ 10)
+    (within : at < length file) where
   one-line : lines (drop at file) ≡ firstLine (drop at file) ∷ allButLast (laterPieces (drop at file))
   one-line = lines-first (drop at file) (line-left file at last within)
 
@@ -155,9 +191,10 @@ module _ (file starts : List ℕ) (n at : ℕ) (passed : Passed file starts n at
   -- behind a good line
   pub again :
       isAnswered (lineReply file starts n (sixAt file at)) ≡ true → length (lines file) ≤ lineLimit →
-      (sixAt file at .second .to < length file) × Passed file (set starts n at) (n + 1) (sixAt file at .second .to + 1)
+      (sixAt file at .second .to < length file) × Passed file (set starts n at) (n + 1) (sixAt file at .second .to + 1) (sixAt file at .own)
   again answer few =
-      let (ends, later) = line-ends file at (answered-six file starts n (sixAt file at) answer) (line-left file at last within) in
+      let six = answered-six file starts n (sixAt file at) answer in
+      let (ends, later) = line-ends file at six (line-left file at last within) in
       let (j, same, good) = found-good (textsAt (judgedAt file at) file) (n + 1) (lineReply file starts n (sixAt file at)) (foundFields (passed .earlier) (fields (firstLine (drop at file)))) verdict answer in
       let rest : lines (drop at file) ≡ firstLine (drop at file) ∷ lines (drop (sixAt file at .second .to + 1) file) = one-line ∙ ap (λ (ps : List (List ℕ)). firstLine (drop at file) ∷ allButLast ps) later in
       let one = ap length rest in (
@@ -172,6 +209,7 @@ module _ (file starts : List ℕ) (n at : ℕ) (passed : Passed file starts n at
               ap (λ (k : ℕ). checkLines k (passed .earlier ++ (j ∷ [])) (lines (drop (sixAt file at .second .to + 1) file))) (add-one n) ∙
               sym (ap (λ (found : Found). onward n found (λ i. checkLines (suc n) (passed .earlier ++ (i ∷ [])) (lines (drop (sixAt file at .second .to + 1) file)))) good) ∙
               ap (checkLines n (passed .earlier)) (sym rest) ∙ passed .comes;
+          claimed = claim-next file claim at (sixAt file at .second .to + 1) six rest (passed .claimed);
         },
       )
 

@@ -9,10 +9,13 @@ ghost use Rattle.reading.specs.Reply.{numberIn, placeIn};
 ghost use Rattle.calculus.specs.Limits.{lineLimit};
 ghost use Rattle.slices.specs.Split.{lines, lastByte};
 ghost use Rattle.derivation_files.specs.Checking.{checkLines, checkingOf};
+ghost use Rattle.fields.specs.Fields.{textsAt};
 ghost use Rattle.checking.specs.Answer.{answerOf};
+ghost use Rattle.checking.specs.Claim.{claimTexts, nowhere, refusalOf};
+use fields::Judged;
 use fields::six_at;
+use fields::texts::Span;
 use line::check_line;
-use line::is_accepted;
 
 // What checking answers; specs/Answer.antt gives the number and the value of each case.
 pub enum Checking {
@@ -74,23 +77,58 @@ pub fn place(answer: Checking) -> usize
     }
 }
 
+// What checking answers of a file, and where the context, the term and the type of its last line stand; empty places beside a refusal.
+pub struct Checked {
+    pub answer: Checking,
+    pub claim: Judged,
+}
+
 // Checks a derivation file of any bytes.
 pub fn check_derivation(file: &[u8]) -> Checking
     ensures { λ r. ⌜ answerOf r ≡ checkingOf (now (file .entry)) ⌝ }
 {
+    check_claim(file).answer
+}
+
+// Checks a derivation file of any bytes, and finds what its last line claims.
+pub fn check_claim(file: &[u8]) -> Checked
+    ensures { λ r. ⌜ answerOf (r .answer) ≡ checkingOf (now (file .entry)) ⌝ }
+    ensures claim { λ r. ⌜ textsAt (r .claim) (now (file .entry)) ≡ claimTexts (checkingOf (now (file .entry))) (now (file .entry)) ⌝ }
+{
     if calculus::FILE_LIMIT < file.len() {
-        return Checking::FileTooLong;
+        return refusal(Checking::FileTooLong);
     }
     if file.len() == 0 {
-        return Checking::FileEmpty;
+        return refusal(Checking::FileEmpty);
     }
     if slices::byte_at(file, file.len() - 1) != 10 {
-        return Checking::NoLineEnd;
+        return refusal(Checking::NoLineEnd);
     }
     if calculus::LINE_LIMIT < line_count(file) {
-        return Checking::TooManyLines;
+        return refusal(Checking::TooManyLines);
     }
     check_lines(file)
+}
+
+// A refusal has no claim.
+fn refusal(answer: Checking) -> Checked
+    ensures { λ r. ⌜ r ≡ refusalOf answer ⌝ }
+{
+    Checked {
+        answer,
+        claim: no_claim(),
+    }
+}
+
+fn no_claim() -> Judged
+    ensures { λ r. ⌜ r ≡ nowhere ⌝ }
+{
+    let nothing = Span { from: 0, to: 0 };
+    Judged {
+        context: nothing,
+        term: nothing,
+        ty: nothing,
+    }
 }
 
 // The number of lines.
@@ -108,23 +146,29 @@ fn line_count(file: &[u8]) -> usize
     count
 }
 
-// Line by line: the first bad line, or accepted with their number. Of the lines passed it keeps where they begin.
-fn check_lines(file: &[u8]) -> Checking
+// Line by line: the first bad line, or accepted with their number. Of the lines passed it keeps where they begin, and the claim of the last.
+fn check_lines(file: &[u8]) -> Checked
     requires { ⌜ (lastByte (now file) ≡ 10) × (length (lines (now file)) ≤ lineLimit) ⌝ }
-    ensures { λ r. ⌜ answerOf r ≡ checkLines 0 [] (lines (now (file .entry))) ⌝ }
+    ensures { λ r. ⌜ answerOf (r .answer) ≡ checkLines 0 [] (lines (now (file .entry))) ⌝ }
+    ensures claim { λ r. ⌜ textsAt (r .claim) (now (file .entry)) ≡ claimTexts (checkLines 0 [] (lines (now (file .entry)))) (now (file .entry)) ⌝ }
 {
     let mut starts = [0usize; calculus::LINE_LIMIT];
     let mut n: usize = 0;
     let mut at: usize = 0;
+    let mut claim = no_claim();
     while at < file.len() {
         let line = six_at(file, at);
         let found = check_line(file, &starts, n, line);
-        if !is_accepted(found) {
-            return found;
+        if number(found) != 0 {
+            return refusal(found);
         }
         starts[n] = at;
         n += 1;
         at = line.second.to + 1;
+        claim = line.own;
     }
-    Checking::Accepted(n)
+    Checked {
+        answer: Checking::Accepted(n),
+        claim,
+    }
 }

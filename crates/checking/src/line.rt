@@ -6,7 +6,7 @@ ghost use Rattle.calculus.specs.Parse.{termOf};
 ghost use Rattle.types.specs.Tests.{isSome};
 ghost use Rattle.checking.specs.Answer.{answerOf};
 ghost use Rattle.fields.specs.Fields.{textsAt};
-ghost use Rattle.checking.specs.TextChecking.{wellFormed, instanceAt, isAnswered, lineReply};
+ghost use Rattle.checking.specs.TextChecking.{wellFormed, instanceAt, lineReply};
 use crate::Checking;
 use fields::Judged;
 use fields::SixFields;
@@ -49,24 +49,6 @@ pub(crate) fn check_line(file: &[u8], starts: &[usize], n: usize, line: SixField
         return Checking::NoInstance(n + 1);
     }
     Checking::Accepted(n + 1)
-}
-
-// Whether no line was refused.
-pub(crate) fn is_accepted(found: Checking) -> bool
-    ensures { λ r. ⌜ r ≡ isAnswered (answerOf found) ⌝ }
-{
-    match found {
-        Checking::FileTooLong => false,
-        Checking::FileEmpty => false,
-        Checking::NoLineEnd => false,
-        Checking::TooManyLines => false,
-        Checking::NotSixFields(_) => false,
-        Checking::Malformed(_) => false,
-        Checking::UnknownRule(_) => false,
-        Checking::BadPremise(_) => false,
-        Checking::NoInstance(_) => false,
-        Checking::Accepted(_) => true,
-    }
 }
 
 // Whether the context, the term and the type are well formed.

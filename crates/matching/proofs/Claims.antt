@@ -20,7 +20,8 @@ use Rattle.derivation_files.specs.Accepted.{claimOf, Claims}
 use Rattle.derivation_files.proofs.GoodLines.{judgementFields, restFields, fields-body}
 use Rattle.derivation_files.proofs.Bodies.{bodies, lines-file}
 use Rattle.derivation_files.proofs.Files.{accepted-exactly}
-use Rattle.matching.specs.Matching.{lastLine, fieldBehind, contextField, typeField, sameClaim, afterBoth, matchingOf}
+use Rattle.checking.specs.Claim.{lastLine, fieldBehind}
+use Rattle.matching.specs.Matching.{contextField, typeField, sameClaim, afterBoth, matchingOf}
 
 -- ---- the claim of one file
 

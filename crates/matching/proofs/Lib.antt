@@ -1,4 +1,3 @@
 -- The theorems about matching.
-pub mod Scan
 pub mod Verdict
 pub mod Claims

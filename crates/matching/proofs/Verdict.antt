@@ -1,35 +1,21 @@
--- From what checking answered of both files, and the two last lines, to the reply: each way out of `match_claims` as one law.
+-- From what checking answered of both files, and the texts of their claims, to the reply: each way out of `match_claims` as one law.
 -- Assumes nothing.
 use Prim.Native.Nat.{ℕ}
 use mathlib.Core.Path.{_≡_, refl, sym, _∙_, ap, ap₂}
-use mathlib.Core.Bool.{Bool, true, false, _&&_}
+use mathlib.Core.Bool.{Bool}
 use mathlib.Core.List.{List, [], _∷_}
 use types.Run.{OneOf, miss}
 use denote.Enum.Declared.{tagOf}
 use Rattle.reading.specs.Reply.{Reply, passedOn}
-use Rattle.slices.specs.Same.{same}
 use Rattle.slices.specs.Split.{lines}
 use Rattle.derivation_files.specs.Checking.{checkingOf}
 use Rattle.checking.specs.Answer as checking
 use Rattle.checking.specs.declared.Checking.{Checking}
 use Rattle.checking.specs.declared.Checking.the-variants.{FileTooLong, FileEmpty, NoLineEnd, TooManyLines, NotSixFields, Malformed, UnknownRule, BadPremise, NoInstance, Accepted}
 use Rattle.checking.proofs.Checking.{the-type}
-use Rattle.matching.specs.Matching.{lastLine, contextField, typeField, sameClaim, afterBoth, matchingOf}
-
--- ---- two lines
-
-module _ (first second : List ℕ) {a b : List ℕ} {r : Bool} (is : r ≡ same a b) (left : a ≡ contextField first) (right : b ≡ contextField second) where
-  contexts : r ≡ same (contextField first) (contextField second)
-  contexts = is ∙ ap₂ same left right
-
-  -- where the contexts are the same the types decide
-  pub claim-types : r ≡ true → {x y : List ℕ} {s : Bool} → s ≡ same x y → x ≡ typeField first → y ≡ typeField second → s ≡ sameClaim first second
-  claim-types e types-are p q =
-      types-are ∙ ap₂ same p q ∙ sym (ap (λ (t : Bool). t && same (typeField first) (typeField second)) (sym contexts ∙ e))
-
-  -- else the claims are not the same
-  pub claim-differs : r ≡ false → r ≡ sameClaim first second
-  claim-differs e = e ∙ sym (ap (λ (t : Bool). t && same (typeField first) (typeField second)) (sym contexts ∙ e))
+use Rattle.fields.specs.Fields.{Texts}
+use Rattle.checking.specs.Claim.{lastLine, claimTexts}
+use Rattle.matching.specs.Matching.{sameClaim, sameTexts, afterBoth, matchingOf}
 
 -- ---- two files
 
@@ -76,10 +62,10 @@ module _ (first second : List ℕ) where
 
     -- neither is
     pub both-answered :
-        {other : Checking} {m : ℕ} → checking.answerOf other ≡ checkingOf second → other ≡ Accepted m →
-        {one two : List ℕ} {r : Bool} → one ≡ lastLine (lines first) → two ≡ lastLine (lines second) → r ≡ sameClaim one two →
-        Reply.answered r ≡ matchingOf first second
+        {other : Checking} {m : ℕ} → checking.answerOf other ≡ checkingOf second → other ≡ Accepted m → (x y : Texts) (r : Bool) →
+        x ≡ claimTexts (checkingOf first) first → y ≡ claimTexts (checkingOf second) second → r ≡ sameTexts x y → Reply.answered r ≡ matchingOf first second
     unfolding matchingOf
-    both-answered is well p q e =
-        ap Reply.answered (e ∙ ap₂ sameClaim p q)
-        ∙ sym (ap₂ (λ (s t : Reply ℕ). afterBoth s t verdict) first-answered (sym is ∙ ap checking.answerOf well))
+    both-answered {other} {m} is well x y r p q e =
+        let second-answered : checkingOf second ≡ Reply.answered m = sym is ∙ ap checking.answerOf well in
+        ap Reply.answered (e ∙ ap₂ sameTexts (p ∙ ap (λ (s : Reply ℕ). claimTexts s first) first-answered) (q ∙ ap (λ (s : Reply ℕ). claimTexts s second) second-answered))
+        ∙ sym (ap₂ (λ (s t : Reply ℕ). afterBoth s t verdict) first-answered second-answered)

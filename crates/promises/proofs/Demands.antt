@@ -33,7 +33,8 @@ use Rattle.derivation_files.proofs.Listed.{checking-refused}
 use Rattle.derivation_files.proofs.Files.{accepted-exactly, claim-unique, claimed, accepted-derivable}
 use Rattle.derivation_files.proofs.Checks.{checks-as, checks-as-only}
 use Rattle.derivation_files.proofs.LaidOut.{laid-out}
-use Rattle.matching.specs.Matching.{lastLine, sameClaim, afterBoth, matchingOf}
+use Rattle.checking.specs.Claim.{lastLine}
+use Rattle.matching.specs.Matching.{sameClaim, afterBoth, matchingOf}
 use Rattle.matching.proofs.Claims.{match-exactly}
 use Rattle.promises.specs.Demands.{StepRefuses, FinishRefuses, SteppedTo, RanTo, ComparedTo, Demands}
 
