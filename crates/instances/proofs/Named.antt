@@ -39,7 +39,8 @@ unnamed b other = sym (ap ruleOf (missing names))
 
 -- a byte that is none of the eight, name by name
 pub other :
-    (b : ℕ) → (b ≡ 74 → ⊥) → (b ≡ 82 → ⊥) → (b ≡ 72 → ⊥) → (b ≡ 65 → ⊥) → (b ≡ 102 → ⊥) → (b ≡ 73 → ⊥) → (b ≡ 66 → ⊥) → (b ≡ 115 → ⊥) →
+    (b : ℕ) → (b ≡ nameByte Name.J → ⊥) → (b ≡ nameByte Name.R → ⊥) → (b ≡ nameByte Name.H → ⊥) → (b ≡ nameByte Name.A → ⊥) →
+    (b ≡ nameByte Name.f → ⊥) → (b ≡ nameByte Name.I → ⊥) → (b ≡ nameByte Name.B → ⊥) → (b ≡ nameByte Name.s → ⊥) →
     (name : Name) → b ≡ nameByte name → ⊥
 other b j r h a f i p s Name.J e = j e
 other b j r h a f i p s Name.R e = r e

@@ -98,15 +98,15 @@ context-no-simple : (G : Context) (U : Simple) → same (contextText G) (simpleT
 context-no-simple G U = same-sym (contextText G) (simpleText U) ∙ simple-no-context U G
 
 -- only an arrow begins with `>`
-no-arrow-context : (G : Context) (s : List ℕ) → same (contextText G) (62 ∷ s) ≡ false
+no-arrow-context : (G : Context) (s : List ℕ) → same (contextText G) (signText Sign.arrow ++ s) ≡ false
 no-arrow-context Context.empty s = refl
 no-arrow-context (Context.bind U G) s = refl
 
-no-arrow-atom : (a : Atom) (s : List ℕ) → same (simpleText (Simple.atom a)) (62 ∷ s) ≡ false
+no-arrow-atom : (a : Atom) (s : List ℕ) → same (simpleText (Simple.atom a)) (signText Sign.arrow ++ s) ≡ false
 no-arrow-atom a s = let low = a .from-a in ap (λ (x : Bool). x && same [] s) (ne-eqb (a .letter) 62 (omega arith))
 
 -- a simple type does not begin with `*`
-no-bind-simple : (U : Simple) (s : List ℕ) → same (simpleText U) (42 ∷ s) ≡ false
+no-bind-simple : (U : Simple) (s : List ℕ) → same (simpleText U) (signText Sign.bind ++ s) ≡ false
 no-bind-simple (Simple.atom a) s = let low = a .from-a in ap (λ (x : Bool). x && same [] s) (ne-eqb (a .letter) 42 (omega arith))
 no-bind-simple (Simple.arrow U T) s = refl
 
@@ -159,48 +159,48 @@ asks-R (Judgement.judge D u (Ty.simple U)) (Context.bind T E) t (Ty.simple X) =
 
 asks-H : (i k : Judgement) (G : Context) (t : Term) (W : Ty) → asksTextH (textsOf (Judgement.judge G t W)) (textsOf i) (textsOf k) ≡ asksH i k G W
 asks-H (Judgement.judge D s (Ty.context F)) (Judgement.judge E u X) G t W =
-    third-fails (sameContext D G) (sameContext E G) (same (contextText F) (62 ∷ (tyText X ++ tyText W))) (no-arrow-context F (tyText X ++ tyText W))
+    third-fails (sameContext D G) (sameContext E G) (same (contextText F) (typeText Sign.arrow (tyText X) (tyText W))) (no-arrow-context F (tyText X ++ tyText W))
 asks-H (Judgement.judge D s (Ty.simple (Simple.atom a))) (Judgement.judge E u X) G t W =
-    third-fails (sameContext D G) (sameContext E G) (same (simpleText (Simple.atom a)) (62 ∷ (tyText X ++ tyText W))) (no-arrow-atom a (tyText X ++ tyText W))
+    third-fails (sameContext D G) (sameContext E G) (same (simpleText (Simple.atom a)) (typeText Sign.arrow (tyText X) (tyText W))) (no-arrow-atom a (tyText X ++ tyText W))
 asks-H (Judgement.judge D s (Ty.simple (Simple.arrow U T))) (Judgement.judge E u X) G t W =
     ap (λ (b : Bool). (sameContext D G && sameContext E G) && b)
-    (ap (λ (s : List ℕ). same s (62 ∷ (tyText X ++ tyText W))) (arrow-text U T) ∙ same-both (Ty.simple U) (Ty.simple T) X W) ∙
+    (ap (λ (s : List ℕ). same s (typeText Sign.arrow (tyText X) (tyText W))) (arrow-text U T) ∙ same-both (Ty.simple U) (Ty.simple T) X W) ∙
     and-assoc (sameContext D G) (sameContext E G) (sameTy X (Ty.simple U)) (sameTy W (Ty.simple T))
 
 -- a type that is no arrow
-context-fails : (H : Context) (s : List ℕ) (a c : Bool) → ((a && same (contextText H) (62 ∷ s)) && c) ≡ false
-context-fails H s a c = second-fails a (same (contextText H) (62 ∷ s)) c (no-arrow-context H s)
+context-fails : (H : Context) (s : List ℕ) (a c : Bool) → ((a && same (contextText H) (signText Sign.arrow ++ s)) && c) ≡ false
+context-fails H s a c = second-fails a (same (contextText H) (signText Sign.arrow ++ s)) c (no-arrow-context H s)
 
-atom-fails : (x : Atom) (s : List ℕ) (a c : Bool) → ((a && same (simpleText (Simple.atom x)) (62 ∷ s)) && c) ≡ false
-atom-fails x s a c = second-fails a (same (simpleText (Simple.atom x)) (62 ∷ s)) c (no-arrow-atom x s)
+atom-fails : (x : Atom) (s : List ℕ) (a c : Bool) → ((a && same (simpleText (Simple.atom x)) (signText Sign.arrow ++ s)) && c) ≡ false
+atom-fails x s a c = second-fails a (same (simpleText (Simple.atom x)) (signText Sign.arrow ++ s)) c (no-arrow-atom x s)
 
 -- the second premise's type is what the arrow leads to
-result-type : (U T : Simple) (X : Ty) → same (simpleText (Simple.arrow U T)) (62 ∷ (simpleBehind (simpleText (Simple.arrow U T)) ++ tyText X)) ≡ sameTy X (Ty.simple T)
+result-type : (U T : Simple) (X : Ty) → same (simpleText (Simple.arrow U T)) (typeText Sign.arrow (simpleBehind (simpleText (Simple.arrow U T))) (tyText X)) ≡ sameTy X (Ty.simple T)
 result-type U T X =
-    ap₂ (λ (s u : List ℕ). same s (62 ∷ (u ++ tyText X))) (arrow-text U T) (behind-arrow U T) ∙
+    ap₂ (λ (s u : List ℕ). same s (typeText Sign.arrow u (tyText X))) (arrow-text U T) (behind-arrow U T) ∙
     same-front (simpleText U) (simpleText T) (tyText X) ∙ same-sym (simpleText T) (tyText X)
 
 asks-A : (i k : Judgement) (G : Context) (t : Term) (W : Ty) → asksTextA (textsOf (Judgement.judge G t W)) (textsOf i) (textsOf k) ≡ asksA i k G W
 asks-A (Judgement.judge D s (Ty.simple Y)) (Judgement.judge E u X) G t (Ty.context H) =
-    context-fails H (simpleBehind (contextText H) ++ tyText X) (sameContext D G) (same (contextText E) (42 ∷ (simpleBehind (contextText H) ++ simpleText Y)))
+    context-fails H (simpleBehind (contextText H) ++ tyText X) (sameContext D G) (same (contextText E) (typeText Sign.bind (simpleBehind (contextText H)) (simpleText Y)))
 asks-A (Judgement.judge D s (Ty.simple Y)) (Judgement.judge E u X) G t (Ty.simple (Simple.atom a)) =
     atom-fails a (simpleBehind (simpleText (Simple.atom a)) ++ tyText X) (sameContext D G)
-    (same (contextText E) (42 ∷ (simpleBehind (simpleText (Simple.atom a)) ++ simpleText Y)))
+    (same (contextText E) (typeText Sign.bind (simpleBehind (simpleText (Simple.atom a))) (simpleText Y)))
 asks-A (Judgement.judge D s (Ty.simple Y)) (Judgement.judge E u X) G t (Ty.simple (Simple.arrow U T)) =
-    third-fails (sameContext D G) (same (simpleText (Simple.arrow U T)) (62 ∷ (simpleBehind (simpleText (Simple.arrow U T)) ++ tyText X)))
-    (same (contextText E) (42 ∷ (simpleBehind (simpleText (Simple.arrow U T)) ++ simpleText Y)))
-    (ap (λ (v : List ℕ). same (contextText E) (42 ∷ (v ++ simpleText Y))) (behind-arrow U T) ∙ no-bind E (Ty.simple U) (Ty.simple Y) never)
+    third-fails (sameContext D G) (same (simpleText (Simple.arrow U T)) (typeText Sign.arrow (simpleBehind (simpleText (Simple.arrow U T))) (tyText X)))
+    (same (contextText E) (typeText Sign.bind (simpleBehind (simpleText (Simple.arrow U T))) (simpleText Y)))
+    (ap (λ (v : List ℕ). same (contextText E) (typeText Sign.bind v (simpleText Y))) (behind-arrow U T) ∙ no-bind E (Ty.simple U) (Ty.simple Y) never)
   where
     never : (Z : Simple) (C : Context) → Ty.simple U ≡ Ty.simple Z → Ty.simple Y ≡ Ty.context C → ⊥
     never Z C p q = let z : _≡_ {A = ℕ} 0 1 = cc in omega arith
 asks-A (Judgement.judge D s (Ty.context F)) (Judgement.judge E u X) G t (Ty.context H) =
-    context-fails H (simpleBehind (contextText H) ++ tyText X) (sameContext D G) (same (contextText E) (42 ∷ (simpleBehind (contextText H) ++ contextText F)))
+    context-fails H (simpleBehind (contextText H) ++ tyText X) (sameContext D G) (same (contextText E) (typeText Sign.bind (simpleBehind (contextText H)) (contextText F)))
 asks-A (Judgement.judge D s (Ty.context F)) (Judgement.judge E u X) G t (Ty.simple (Simple.atom a)) =
     atom-fails a (simpleBehind (simpleText (Simple.atom a)) ++ tyText X) (sameContext D G)
-    (same (contextText E) (42 ∷ (simpleBehind (simpleText (Simple.atom a)) ++ contextText F)))
+    (same (contextText E) (typeText Sign.bind (simpleBehind (simpleText (Simple.atom a))) (contextText F)))
 asks-A (Judgement.judge D s (Ty.context F)) (Judgement.judge E u X) G t (Ty.simple (Simple.arrow U T)) =
     ap₂ (λ (b c : Bool). (sameContext D G && b) && c) (result-type U T X)
-    (ap (λ (v : List ℕ). same (contextText E) (42 ∷ (v ++ contextText F))) (behind-arrow U T) ∙ ap (same (contextText E)) (sym (bind-text U F))) ∙
+    (ap (λ (v : List ℕ). same (contextText E) (typeText Sign.bind v (contextText F))) (behind-arrow U T) ∙ ap (same (contextText E)) (sym (bind-text U F))) ∙
     and-swap (sameContext D G) (sameTy X (Ty.simple T)) (sameContext E (Context.bind U F))
 
 -- a type that is `*` and two types is `*` with a simple type and a context
