@@ -1,10 +1,20 @@
 -- `stepping::advance` meets its contract: each of its three ways out is a law of `Stepped`. Assumes nothing.
-use mathlib.Core.Path.{sym, subst}
+use mathlib.Core.Path.{sym}
 use borrow.Author.Needs.{needs}
-use Rattle.stepping.specs.Spot.{Begins}
-use Rattle.stepping.proofs.Stepped.{Makes, found-makes, after-normal, after-no-room, after-step}
+use lib.Seq.{length-take-le}
+use Rattle.calculus.specs.Term.{Term}
+use Rattle.stepping.specs.Held.{Holds}
+use Rattle.stepping.proofs.Stepped.{Makes, held-makes, after-normal, after-no-room, after-step}
 use Rattle.stepping.proofs.advance.Statement.{statement}
 use Rattle.stepping.proofs.advance.Tie as tie
+
+slice-reshare-prefix-redex : tie.Need-slice-reshare-prefix-redex
+slice-reshare-prefix-redex c = search needs
+
+slice-aggregate-redex : tie.Need-slice-aggregate-redex
+slice-aggregate-redex c =
+    let a = c .before .before .before .args in
+    sym (length-take-le (a .len) (a .area .now) (c .before .before .before .pre .0))
 
 redex-requires : tie.Need-redex-requires
 redex-requires c κs = search needs
@@ -21,12 +31,19 @@ same-length-2 c = search needs
 returns : tie.Need-returns
 returns c =
     let a = c .before .before .before .before .before .before .before .before .before .before .before .before .args in
-    let found = c .before .before .before .before .before .before .before .before .redex .ensures .1 in
     let cleared = c .before .before .before .before .clear .ensures in
-    λ h. after-normal h (a .work .now) (found h) (c .before .before .before .before .before .before .before .if1 .taken) (cleared .0) (cleared .1)
+    λ t h. after-normal h (a .work .now) (c .before .before .before .before .before .before .before .before .redex .ensures) (c .before .before .before .before .before .before .before .if1 .taken) (cleared .0) (cleared .1)
+
+slice-reshare-prefix-rewrite-at : tie.Need-slice-reshare-prefix-rewrite-at
+slice-reshare-prefix-rewrite-at c = search needs
+
+slice-aggregate-rewrite-at : tie.Need-slice-aggregate-rewrite-at
+slice-aggregate-rewrite-at c =
+    let a = c .before .before .before .before .before .before .args in
+    sym (length-take-le (a .len) (a .area .now) (c .before .before .before .before .before .before .pre .0))
 
 rewrite-at-requires : tie.Need-rewrite-at-requires
-rewrite-at-requires c κs = c .before .before .redex .ensures .0 (c .before .if1 .left)
+rewrite-at-requires c κs = search needs
 
 sub-if2 : tie.Need-sub-if2
 sub-if2 c = search needs
@@ -47,14 +64,19 @@ returns-2 : tie.Need-returns-2
 returns-2 c =
     let a = c .before .before .before .before .before .before .before .before .before .before .before .before .before .before .before .before .args in
     let pre = c .before .before .before .before .before .before .before .before .before .before .before .before .before .before .before .before .pre in
-    let found = c .before .before .before .before .before .before .before .before .before .before .before .before .redex .ensures .1 in
-    let at = c .before .before .before .before .before .before .before .before .before .rewrite-at in
-    let room = c .before .before .before .before .before .before .before .if2 in
-    let growth = c .before .before .before .before .before .before .before .before .growth .ensures in
-    let makes : (h : Begins (a .area .now) (a .len)) → Makes (h .term) (a .area .now) (a .len) (at .result) =
-    λ h. subst (Makes (h .term) (a .area .now) (a .len)) (sym (at .ensures)) (found-makes h (found h) (c .before .before .before .before .before .before .before .before .before .before .before .if1 .left)) in
+    let w = c .before .before .before .before .before .before .before .before .before .rewrite-at in
+    let makes : (t : Term) → Holds (a .area .now) (a .len) t → Makes t (w .result) =
+    λ t h. held-makes h (w .result) (c .before .before .before .before .before .before .before .before .before .before .before .before .redex .ensures) (c .before .before .before .before .before .before .before .before .before .before .before .if1 .left) (w .ensures) in
     let cleared = c .before .before .before .before .clear2 .ensures in
-    λ h. after-no-room h (a .work .now) (makes h) growth (pre .0) (room .taken) (cleared .0) (cleared .1)
+    λ t h. after-no-room h (a .work .now) (makes t h) (c .before .before .before .before .before .before .before .before .growth .ensures) (c .before .before .before .before .before .before .before .if2 .taken) (cleared .0) (cleared .1)
+
+slice-reshare-prefix-write : tie.Need-slice-reshare-prefix-write
+slice-reshare-prefix-write c = search needs
+
+slice-aggregate-write : tie.Need-slice-aggregate-write
+slice-aggregate-write c =
+    let a = c .before .before .before .before .before .before .before .before .before .before .args in
+    sym (length-take-le (a .len) (a .area .now) (c .before .before .before .before .before .before .before .before .before .before .pre .0))
 
 write-requires : tie.Need-write-requires
 write-requires c κs = search needs
@@ -72,24 +94,26 @@ returns-3 : tie.Need-returns-3
 returns-3 c =
     let a = c .before .before .before .before .before .before .before .before .before .before .before .before .before .before .before .before .before .before .before .before .before .args in
     let pre = c .before .before .before .before .before .before .before .before .before .before .before .before .before .before .before .before .before .before .before .before .before .pre in
-    let found = c .before .before .before .before .before .before .before .before .before .before .before .before .before .before .before .before .before .redex .ensures .1 in
-    let at = c .before .before .before .before .before .before .before .before .before .before .before .before .before .before .rewrite-at in
-    let room = c .before .before .before .before .before .before .before .before .before .before .before .before .if2 in
-    let growth = c .before .before .before .before .before .before .before .before .before .before .before .before .before .growth .ensures in
-    let makes : (h : Begins (a .area .now) (a .len)) → Makes (h .term) (a .area .now) (a .len) (at .result) =
-    λ h. subst (Makes (h .term) (a .area .now) (a .len)) (sym (at .ensures)) (found-makes h (found h) (c .before .before .before .before .before .before .before .before .before .before .before .before .before .before .before .before .if1 .left)) in
+    let w = c .before .before .before .before .before .before .before .before .before .before .before .before .before .before .rewrite-at in
+    let makes : (t : Term) → Holds (a .area .now) (a .len) t → Makes t (w .result) =
+    λ t h. held-makes h (w .result) (c .before .before .before .before .before .before .before .before .before .before .before .before .before .before .before .before .before .redex .ensures) (c .before .before .before .before .before .before .before .before .before .before .before .before .before .before .before .before .if1 .left) (w .ensures) in
+    let written = c .before .before .before .before .before .before .before .before .before .write .ensures in
     let put = c .before .before .before .before .put-back .ensures in
-    λ h. after-step h (a .work .now) (makes h) growth (pre .0) (room .left) (pre .1) (c .before .before .before .before .before .before .before .before .before .write .ensures) (put .0) (put .1)
+    λ t h. after-step h (a .work .now) (makes t h) (c .before .before .before .before .before .before .before .before .before .before .before .before .before .growth .ensures) (c .before .before .before .before .before .before .before .before .before .before .before .before .if2 .left) (pre .1) (written .0) (written .1) (put .0) (put .1)
 
 pub advance-spec : {M : Type 1} → statement M
 advance-spec =
     tie.close
     (tie.spec
+    slice-reshare-prefix-redex
+    slice-aggregate-redex
     redex-requires
     clear-requires
     same-length
     same-length-2
     returns
+    slice-reshare-prefix-rewrite-at
+    slice-aggregate-rewrite-at
     rewrite-at-requires
     sub-if2
     growth-requires
@@ -97,6 +121,8 @@ advance-spec =
     same-length-3
     same-length-4
     returns-2
+    slice-reshare-prefix-write
+    slice-aggregate-write
     write-requires
     put-back-requires
     same-length-5

@@ -9,6 +9,7 @@ use denote.Enum.Declared.{tagOf}
 use borrow.Author.Needs.{needs}
 use lib.ListN.{length, take}
 use lib.Seq.{length-take-le}
+use Rattle.calculus.specs.Limits.{areaLimit}
 use Rattle.reading.specs.declared.Reading.{Reading}
 use Rattle.reading.specs.declared.Reading.the-variants.{Whole, NoLetter, NotWhole, Beyond}
 use Rattle.reading.proofs.Reading.{the-type}
@@ -22,7 +23,7 @@ use Rattle.stepping.proofs.step.Tie as tie
 
 -- what is not whole is refused
 unread :
-    (area : List ℕ) (len : ℕ) (work : List ℕ) → length area ≤ 16384 → length area ≤ length work → len ≤ length area →
+    (area : List ℕ) (len : ℕ) (work : List ℕ) → length area ≤ areaLimit → length area ≤ length work → len ≤ length area →
     (r : Reading) → readingAnswer r ≡ readingOf (take len area) → OneOf (1 ∷ 2 ∷ 3 ∷ []) (tagOf the-type r) →
     After.after (passedOn (readingAnswer r)) area work ≡ steppingOf area len work
 unread area len work short enough within (Whole n) e k = absurd (⊎-elim (λ h. omega arith) (⊎-elim (λ h. omega arith) (λ h. omega arith)) k)
@@ -73,7 +74,7 @@ advance-requires c κs =
     let reading = c .before .before .before .reading .given in
     let answer = ap readingAnswer (sym (reading .1)) ∙ c .before .before .before .before .before .read .ensures in
     let read = reading-answered (a .area .now) (a .len) (a .work .now) (c .before .before .before .before .before .before .before .before .before .if1 .left) (c .before .before .before .before .before .before .before .before .if2 .left) (c .before .before .before .before .before .before .before .if3 .left) (reading .0 .0) answer in
-    (read .1, c .before .before .before .before .before .before .before .before .if2 .left)
+    (read .1 .within, c .before .before .before .before .before .before .before .before .if2 .left)
 
 same-length-2 : tie.Need-same-length-2
 same-length-2 c = search needs
@@ -87,7 +88,7 @@ returns-5 c =
     let reading = c .before .before .before .before .before .before .before .before .reading .given in
     let answer = ap readingAnswer (sym (reading .1)) ∙ c .before .before .before .before .before .before .before .before .before .before .read .ensures in
     let read = reading-answered (a .area .now) (a .len) (a .work .now) (c .before .before .before .before .before .before .before .before .before .before .before .before .before .before .if1 .left) (c .before .before .before .before .before .before .before .before .before .before .before .before .before .if2 .left) (c .before .before .before .before .before .before .before .before .before .before .before .before .if3 .left) (reading .0 .0) answer in
-    c .before .before .before .before .advance .ensures (read .0) ∙ sym (read .2)
+    c .before .before .before .before .advance .ensures (read .0) (read .1) ∙ sym (read .2)
 
 pub step-spec : {M : Type 1} → statement M
 step-spec =

@@ -1,0 +1,55 @@
+-- `redexes::next_place` meets its contract: each answer is a way that the search goes, by the tests that led to it. Assumes nothing.
+use mathlib.Core.Path.{sym, _∙_, ap}
+use Prim.Native.Nat.{ℕ}
+use borrow.Author.Needs.{needs}
+use lib.ListN.{getD}
+use Rattle.redexes.specs.Moves.{Move}
+use Rattle.redexes.proofs.next_place.Statement.{statement}
+use Rattle.redexes.proofs.next_place.Tie as tie
+
+add-byte-at : tie.Need-add-byte-at
+add-byte-at c = search needs
+
+byte-at-requires : tie.Need-byte-at-requires
+byte-at-requires c κs = search needs
+
+add-result : tie.Need-add-result
+add-result c = search needs
+
+returns : tie.Need-returns
+returns c = Move.function (sym (c .before .byte-at .ensures) ∙ c .if1 .taken)
+
+add-part-end : tie.Need-add-part-end
+add-part-end c = search needs
+
+part-end-requires : tie.Need-part-end-requires
+part-end-requires c κs = search needs
+
+byte-at-requires-2 : tie.Need-byte-at-requires-2
+byte-at-requires-2 c κs = search needs
+
+returns-2 : tie.Need-returns-2
+returns-2 c = Move.argument (c .before .before .part-end .ensures) (sym (c .before .before .before .before .before .byte-at .ensures) ∙ c .before .before .before .if2 .taken) (sym (c .before .byte-at2 .ensures) ∙ c .if3 .taken)
+
+returns-3 : tie.Need-returns-3
+returns-3 c =
+    let a = c .before .before .before .before .before .before .before .args in
+    Move.here (λ e. c .before .before .before .before .if1 .left (c .before .before .before .before .before .byte-at .ensures ∙ e)) (λ b e. c .if3 .left (c .before .byte-at2 .ensures ∙ ap (λ (n : ℕ). getD (a .s .now) n 0) (c .before .before .part-end .ensures) ∙ e))
+
+returns-4 : tie.Need-returns-4
+returns-4 c = Move.here (λ e. c .before .if1 .left (c .before .before .byte-at .ensures ∙ e)) (λ b. absurd (c .if2 .left (c .before .before .byte-at .ensures ∙ b)))
+
+pub next-place-spec : {M : Type 1} → statement M
+next-place-spec =
+    tie.close
+    (tie.spec
+    add-byte-at
+    byte-at-requires
+    add-result
+    returns
+    add-part-end
+    part-end-requires
+    byte-at-requires-2
+    returns-2
+    returns-3
+    returns-4)
