@@ -114,14 +114,7 @@ fn needed(size: usize, whole: usize) -> usize
 fn has_stop(s: &[u8]) -> bool
     ensures { λ r. ⌜ r ≡ hasStop (now (s .entry)) ⌝ }
 {
-    let mut i = 0;
-    while i < s.len() {
-        if s[i] == calculus::letters::STOP {
-            return true;
-        }
-        i += 1;
-    }
-    false
+    slices::find(s, calculus::letters::STOP) < s.len()
 }
 
 // The next step of the term in the first `size` bytes.
