@@ -1,11 +1,14 @@
 -- Decimal numbers: a digit more behind a number is ten times the number and that digit, in reading (`numberOf`, `decimalOf`) and in
 -- writing (`decimal`); what has a byte that is no digit, or a leading zero, is no number. Assumes nothing.
-use Prim.Native.Nat.{ℕ, zero, suc, _+_, _*_, _-_, _/_, _%_, _≤_, _<_}
+use Prim.Native.Nat.{ℕ, zero, suc, _+_, _*_, _-_, _/_, _%_, _^_, _≤_, _<_}
+use native.Mathlib.Nat.{pow-suc}
+use native.Mathlib.Decide.{decLt}
 use mathlib.Core.Path.{_≡_, refl, sym, _∙_, ap, ap₂}
 use mathlib.Core.Bool.{Bool, true, false, _&&_, false≢true}
 use mathlib.Core.Option.{none, some}
 use mathlib.Core.List.{List, [], _∷_, _++_}
 use lib.Dec.{leb, ltb}
+use lib.ListN.{length, length-append}
 use borrow.Author.Tests.{leb-true, ltb-true, lt-ltb, ne-eqb}
 use native.Mathlib.Omega.{arith}
 use Rattle.slices.specs.Numeral.{isDigit, allDigits, valueFrom, someIf, numberOf, digits, numeral, decimal, zeroOr, isZero, decimalOf}
@@ -180,3 +183,17 @@ decimal-empty = refl
 pub decimal-zero : decimalOf (48 ∷ []) ≡ some 0
 unfolding decimalOf
 decimal-zero = refl
+
+-- ---- how many digits
+
+-- a number below a power of ten has at most so many digits
+pub decimal-length : (k n : ℕ) → n < 10 ^ suc k → length (decimal n) ≤ suc k
+decimal-length zero n below = omega (arith, ap length (decimal-digit n (omega arith)))
+decimal-length (suc k) n below =
+    let tenth : n / 10 < 10 ^ suc k = omega (arith, pow-suc 10 (suc k)) in
+    go (decLt n 10) (decimal-length k (n / 10) tenth)
+  where
+    go : Dec (n < 10) → length (decimal (n / 10)) ≤ suc k → length (decimal n) ≤ suc (suc k)
+    go (yes small) fewer = omega (arith, ap length (decimal-digit n small))
+    go (no large) fewer =
+        omega (arith, ap length (decimal-tenth n (omega arith)), length-append (decimal (n / 10)) ((48 + n % 10) ∷ []))
