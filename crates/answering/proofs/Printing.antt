@@ -4,8 +4,8 @@ use mathlib.Core.Path.{_≡_, sym, _∙_, ap, subst}
 use mathlib.Core.List.{List}
 use Rattle.slices.specs.Part.{part}
 use Rattle.slices.proofs.Part.{part-front}
-use Rattle.finish_line.specs.Printed.{lineOf}
-use Rattle.finish_line.proofs.Writing.{Appends}
+use Rattle.printing.specs.Printed.{lineOf}
+use Rattle.printing.proofs.Writing.{Appends}
 use Rattle.reading.specs.Reply.{Reply}
 use Rattle.derivation_files.specs.Checking.{checkingOf}
 use Rattle.finishing.specs.Finishing.{Ran}

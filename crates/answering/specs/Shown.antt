@@ -7,8 +7,7 @@ use Rattle.calculus.specs.Run.{Outcome}
 use Rattle.calculus.specs.Ascii.{ascii}
 use Rattle.reading.specs.Reply.{Reply}
 use Rattle.finishing.specs.Finishing.{Ran, After}
-use Rattle.finish_line.specs.Printed.{lineOf, numbersOf}
-use Rattle.finish_line.specs.Fields.{countOf}
+use Rattle.printing.specs.Printed.{lineOf, numbersOf, countOf}
 
 abbrev pub word : Outcome → List ℕ
 word Outcome.finished = ascii "finished"

@@ -42,7 +42,7 @@ pub fn answer_run(asked: Asked, term: &mut [u8], work: &mut [u8], out: &mut [u8]
         × (now (work .exit) ≡ workAfter asked (now (term .entry)) (now (work .entry))) ⌝ }
 {
     let Asked::Request { fuel, area, length } = asked else {
-        return finish_line::print_numbers(b"refused", OTHER_SHAPE, 0, out);
+        return printing::print_numbers(b"refused", OTHER_SHAPE, 0, out);
     };
     run_request(fuel, area, length, term, work, out)
 }
@@ -85,7 +85,7 @@ fn print_finishing(admission: Admission, run: Run, area: &[u8], out: &mut [u8]) 
     let Admittance::Refused(number, place) = admittance_of(admission) else {
         return print_run(run, area, out);
     };
-    finish_line::print_numbers(b"refused", number, place as u64, out)
+    printing::print_numbers(b"refused", number, place as u64, out)
 }
 
 // The line of a run; the term reached stands at the front of the area.
@@ -96,9 +96,9 @@ fn print_run(run: Run, area: &[u8], out: &mut [u8]) -> usize
     let outcome = run.outcome;
     let term = slices::cut(area, 0, run.size);
     match outcome {
-        Outcome::Finished => finish_line::print_line(b"finished", run.count, term, out),
-        Outcome::Spent => finish_line::print_line(b"spent", run.count, term, out),
-        Outcome::NoRoom => finish_line::print_line(b"no room", run.count, term, out),
+        Outcome::Finished => printing::print_line(b"finished", run.count, term, out),
+        Outcome::Spent => printing::print_line(b"spent", run.count, term, out),
+        Outcome::NoRoom => printing::print_line(b"no room", run.count, term, out),
     }
 }
 
@@ -109,13 +109,13 @@ fn print_checking(answer: Checking, out: &mut [u8]) -> usize
 {
     let verdict = verdict_of(answer);
     match verdict {
-        Verdict::Rejected(number, line) => finish_line::print_numbers(
+        Verdict::Rejected(number, line) => printing::print_numbers(
             b"refused",
             number,
             line as u64,
             out,
         ),
-        Verdict::Accepted(lines) => finish_line::print_count(b"accepted", lines as u64, out),
+        Verdict::Accepted(lines) => printing::print_count(b"accepted", lines as u64, out),
     }
 }
 

@@ -3,6 +3,4 @@ pub mod Shape
 pub mod Buffer
 pub mod Reached
 pub mod Asks
-pub mod Digits
-pub mod Writing
 pub mod Edges

@@ -1,15 +1,11 @@
-// The finishing program's line, read chunk by chunk, and the lines that the programs print.
+// The finishing program's line, read chunk by chunk.
 ghost use mathlib.Core.Path.{_≡_};
-ghost use Prim.Native.Nat.{_+_, _-_, _≤_, _<_};
-ghost use lib.Dec.{leb};
-ghost use lib.ListN.{length, set};
+ghost use Prim.Native.Nat.{_-_, _≤_};
+ghost use lib.ListN.{set};
 ghost use Rattle.slices.specs.Numeral.{isDigit};
-ghost use Rattle.slices.specs.Put.{put, behind};
 ghost use Rattle.finish_line.specs.Fed.{state, fed, startLine, fedLine, isKept, isTermByte, keptByte, more, fuelFirst, fuelZero, fuelMore, areaFirst, areaMore, inTerm};
 ghost use Rattle.finish_line.specs.Fed.{moved as Fed·moved, fuelled as Fed·fuelled, sized as Fed·sized, lengthened as Fed·lengthened};
 ghost use Rattle.finish_line.specs.Answer.{askedOf};
-ghost use Rattle.finish_line.specs.Printed.{lineOf, numbersOf};
-ghost use Rattle.finish_line.specs.Fields.{fieldsOf, pairOf, countOf};
 
 // The least fuel, area size and term length that are refused whatever they are.
 const FUEL_CAP: u64 = 1_000_001;
@@ -329,84 +325,4 @@ fn one_more(cap: u64, n: u64, b: u8) -> u64
         return m;
     }
     cap
-}
-
-// Prints a word, a number and further bytes, tabs between, at the start of `out` and answers how many bytes that are.
-// Where the line does not fit, nothing changes and the answer is 0.
-pub fn print_line(word: &[u8], number: u64, rest: &[u8], out: &mut [u8]) -> usize
-    ensures { λ r. ⌜ (now (out .exit) ≡ put 0 (lineOf (now (word .entry)) number (now (rest .entry))) (now (out .entry)))
-        × (r ≡ behind 0 (lineOf (now (word .entry)) number (now (rest .entry))) (now (out .entry))) ⌝ }
-{
-    let mut text = [0u8; 20];
-    let k = io::decimal(number, &mut text);
-    print_fields(word, &text[..k], rest, out)
-}
-
-// Prints a word and two numbers, tabs between, as `print_line` does.
-pub fn print_numbers(word: &[u8], first: u64, second: u64, out: &mut [u8]) -> usize
-    ensures { λ r. ⌜ (now (out .exit) ≡ put 0 (numbersOf (now (word .entry)) first second) (now (out .entry)))
-        × (r ≡ behind 0 (numbersOf (now (word .entry)) first second) (now (out .entry))) ⌝ }
-{
-    let mut text = [0u8; 20];
-    let k = io::decimal(second, &mut text);
-    print_line(word, first, &text[..k], out)
-}
-
-// Prints a word and a number, a tab between, as `print_line` does.
-pub fn print_count(word: &[u8], count: u64, out: &mut [u8]) -> usize
-    ensures { λ r. ⌜ (now (out .exit) ≡ put 0 (countOf (now (word .entry)) count) (now (out .entry)))
-        × (r ≡ behind 0 (countOf (now (word .entry)) count) (now (out .entry))) ⌝ }
-{
-    let mut text = [0u8; 20];
-    let k = io::decimal(count, &mut text);
-    print_pair(word, &text[..k], out)
-}
-
-// Prints three fields, where they fit.
-fn print_fields(first: &[u8], second: &[u8], third: &[u8], out: &mut [u8]) -> usize
-    ensures { λ r. ⌜ (now (out .exit) ≡ put 0 (fieldsOf (now (first .entry)) (now (second .entry)) (now (third .entry))) (now (out .entry)))
-        × (r ≡ behind 0 (fieldsOf (now (first .entry)) (now (second .entry)) (now (third .entry))) (now (out .entry))) ⌝ }
-{
-    if fits(first.len(), second.len(), third.len(), 3, out.len()) {
-        let a = slices::append(first, 0, first.len(), out, 0);
-        let b = slices::append_byte(9, out, a);
-        let c = slices::append(second, 0, second.len(), out, b);
-        let d = slices::append_byte(9, out, c);
-        let e = slices::append(third, 0, third.len(), out, d);
-        return slices::append_byte(10, out, e);
-    }
-    0
-}
-
-// Prints two fields, where they fit.
-fn print_pair(first: &[u8], second: &[u8], out: &mut [u8]) -> usize
-    ensures { λ r. ⌜ (now (out .exit) ≡ put 0 (pairOf (now (first .entry)) (now (second .entry))) (now (out .entry)))
-        × (r ≡ behind 0 (pairOf (now (first .entry)) (now (second .entry))) (now (out .entry))) ⌝ }
-{
-    if fits(first.len(), second.len(), 0, 2, out.len()) {
-        let a = slices::append(first, 0, first.len(), out, 0);
-        let b = slices::append_byte(9, out, a);
-        let c = slices::append(second, 0, second.len(), out, b);
-        return slices::append_byte(10, out, c);
-    }
-    0
-}
-
-// Whether three fields of these lengths fit, with that many bytes between and behind them.
-fn fits(first: usize, second: usize, third: usize, marks: usize, room: usize) -> bool
-    ensures { λ r. ⌜ r ≡ leb (first + second + third + marks) room ⌝ }
-{
-    if room < first {
-        return false;
-    }
-    if room - first < second {
-        return false;
-    }
-    if room - first - second < third {
-        return false;
-    }
-    if room - first - second - third < marks {
-        return false;
-    }
-    true
 }
