@@ -8,6 +8,16 @@ ghost use Rattle.slices.specs.Part.{part};
 ghost use Rattle.slices.specs.Put.{put, behind};
 ghost use Rattle.slices.specs.Same.{same};
 
+// The byte between two fields, and the byte that ends a line.
+pub const TAB: u8 = 9;
+
+pub const LINE_FEED: u8 = 10;
+
+// The bytes of the digits `0` and `9`.
+pub const DIGIT_0: u8 = 48;
+
+pub const DIGIT_9: u8 = 57;
+
 // The byte of `s` at index `at`, and 0 past the end.
 pub fn byte_at(s: &[u8], at: usize) -> u8
     ensures { λ r. ⌜ r ≡ getD (now (s .entry)) at 0 ⌝ }
