@@ -18,9 +18,6 @@ ghost use Rattle.answering.specs.Shown.{ranLine, replyLine, shownRun, sh
 ghost use Rattle.answering.specs.Program.{checkProgram};
 ghost use Rattle.answering.specs.Answer.{admittanceOf, verdictOf, finishedIn, areaIn, workIn, printedRun, termAfter, workAfter};
 
-// The number of input that has another shape than the finishing program's line.
-const OTHER_SHAPE: u64 = 19;
-
 // Whether finishing refused, with the number and the place.
 enum Admittance {
     Refused(u64, usize),
@@ -42,7 +39,7 @@ pub fn answer_run(asked: Asked, term: &mut [u8], work: &mut [u8], out: &mut [u8]
         × (now (work .exit) ≡ workAfter asked (now (term .entry)) (now (work .entry))) ⌝ }
 {
     let Asked::Request { fuel, area, length } = asked else {
-        return printing::print_numbers(b"refused", OTHER_SHAPE, 0, out);
+        return printing::print_numbers(b"refused", finish_line::number(asked), 0, out);
     };
     run_request(fuel, area, length, term, work, out)
 }
