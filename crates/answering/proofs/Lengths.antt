@@ -16,7 +16,7 @@ use Rattle.slices.specs.Put.{put, behind}
 use Rattle.slices.specs.Numeral.{decimal}
 use Rattle.slices.proofs.Put.{put-fits, behind-fits}
 use Rattle.slices.proofs.Decimal.{decimal-length}
-use Rattle.reading.specs.Reply.{Reply}
+use Rattle.reading.specs.Reply.{Reply, Refuses}
 use Rattle.stepping.specs.Areas.{holding}
 use Rattle.finishing.specs.Finishing.{After, finishingOf}
 use Rattle.finishing.proofs.Calls.{Call, call}
@@ -56,22 +56,28 @@ word-length Outcome.finished = omega arith
 word-length Outcome.spent = omega arith
 word-length Outcome.no-room = omega arith
 
-below : (n : ℕ) → List·Memᴰ n (1 ∷ 2 ∷ 3 ∷ 4 ∷ 5 ∷ 6 ∷ 7 ∷ []) → n < 10
-below n m = go (1 ∷ 2 ∷ 3 ∷ 4 ∷ 5 ∷ 6 ∷ 7 ∷ []) (omega arith) m
-  where
-    Low : List ℕ → Type 0
-    Low [] = Unit
-    Low (k ∷ ks) = (k < 10) × Low ks
+-- a number of a list whose numbers are all small is small
+abbrev Low : List ℕ → Type 0
+Low [] = Unit
+Low (n ∷ numbers) = (n < 10000000) × Low numbers
 
-    go : (numbers : List ℕ) → Low numbers → List·Memᴰ n numbers → n < 10
-    go [] s m = absurd (elim m [ ])
-    go (k ∷ ks) s (List·Memᴰ·head e) = omega (arith, e, s .0)
-    go (k ∷ ks) s (List·Memᴰ·tail m) = go ks (s .1) m
+below : {n : ℕ} (numbers : List ℕ) → Low numbers → List·Memᴰ n numbers → n < 10000000
+below [] low m = absurd (elim m [ ])
+below (k ∷ numbers) low (List·Memᴰ·head e) = omega (arith, e, low .0)
+below (k ∷ numbers) low (List·Memᴰ·tail m) = below numbers (low .1) m
+
+-- the number and the place of a refusal are small
+pub refusal-small :
+    {plain placed : List ℕ} {least most number place : ℕ} → Low plain → Low placed → most < 10000000 → Refuses plain placed least most number place →
+    (number < 10000000) × (place < 10000000)
+refusal-small {plain = plain} low low′ few (Refuses.at-zero m e) = (below plain low m, omega arith)
+refusal-small {placed = placed} low low′ few (Refuses.at-place m from to) = (below placed low′ m, omega arith)
 
 -- the line of a call of finishing
 call-length : {area work : List ℕ} {len fuel : ℕ} {x : After} → Call area len work fuel x → length (shownRun x) ≤ 16402
 call-length (Call.refused {number} {place} found) =
-    omega (arith, refused-length number place (omega (arith, below number (found .listed))) (omega (arith, found .within)))
+    let (h, k) = refusal-small (omega arith) (omega arith) (omega arith) found in
+    omega (arith, refused-length number place h k)
 call-length {area = area} {len = len} {fuel = fuel} (Call.made t admits) =
     let r = run fuel (length area) t in
     let held = admits .held in

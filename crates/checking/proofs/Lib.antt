@@ -3,3 +3,4 @@ pub mod Replied
 pub mod TextChecking
 pub mod Claimed
 pub mod Walk
+pub mod Refused

@@ -4,35 +4,21 @@ use Prim.Native.Nat.{ℕ}
 use mathlib.Core.Path.{_≡_, refl, sym, _∙_, ap, ap₂}
 use mathlib.Core.Bool.{Bool}
 use mathlib.Core.List.{List, [], _∷_}
-use types.Run.{OneOf, miss}
+use types.Run.{OneOf}
 use denote.Enum.Declared.{tagOf}
 use Rattle.reading.specs.Reply.{Reply, passedOn}
 use Rattle.slices.specs.Split.{lines}
 use Rattle.derivation_files.specs.Checking.{checkingOf}
 use Rattle.checking.specs.Answer as checking
 use Rattle.checking.specs.declared.Checking.{Checking}
-use Rattle.checking.specs.declared.Checking.the-variants.{FileTooLong, FileEmpty, NoLineEnd, TooManyLines, NotSixFields, Malformed, UnknownRule, BadPremise, NoInstance, Accepted}
+use Rattle.checking.specs.declared.Checking.the-variants.{Accepted}
 use Rattle.checking.proofs.Checking.{the-type}
+use Rattle.checking.proofs.Refused.{refused-reply}
 use Rattle.fields.specs.Fields.{Texts}
 use Rattle.checking.specs.Claim.{lastLine, claimTexts}
 use Rattle.matching.specs.Matching.{sameClaim, sameTexts, afterBoth, matchingOf}
 
 -- ---- two files
-
--- each case but the last is a refusal
-refused-reply :
-    (found : Checking) → OneOf (0 ∷ 1 ∷ 2 ∷ 3 ∷ 4 ∷ 5 ∷ 6 ∷ 7 ∷ 8 ∷ []) (tagOf the-type found) →
-    (number : ℕ) × (line : ℕ) × (checking.answerOf found ≡ Reply.refused number line)
-refused-reply FileTooLong k = (10, 0, refl)
-refused-reply FileEmpty k = (11, 0, refl)
-refused-reply NoLineEnd k = (12, 0, refl)
-refused-reply TooManyLines k = (13, 0, refl)
-refused-reply (NotSixFields line) k = (14, line, refl)
-refused-reply (Malformed line) k = (15, line, refl)
-refused-reply (UnknownRule line) k = (16, line, refl)
-refused-reply (BadPremise line) k = (17, line, refl)
-refused-reply (NoInstance line) k = (18, line, refl)
-refused-reply (Accepted n) k = absurd (miss (0 ∷ 1 ∷ 2 ∷ 3 ∷ 4 ∷ 5 ∷ 6 ∷ 7 ∷ 8 ∷ []) 9 tt k)
 
 module _ (first second : List ℕ) where
   abbrev verdict : Bool

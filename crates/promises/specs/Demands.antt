@@ -70,20 +70,20 @@ pub record RanTo (area : List ℕ) (len : ℕ) (work : List ℕ) (fuel : ℕ) (o
 
 -- what comparing did: a run of each term, whose results it compares
 pub record ComparedTo
-  (first : List ℕ) (len₁ : ℕ) (second : List ℕ) (len₂ : ℕ) (work : List ℕ) (fuel : ℕ) (c : comparing.Compared) (first′ second′ work′ : List ℕ) : Type 0
+    (first : List ℕ) (len₁ : ℕ) (second : List ℕ) (len₂ : ℕ) (work : List ℕ) (fuel : ℕ) (c : comparing.Compared) (first′ second′ work′ : List ℕ) : Type 0
   where
-  pub start₁ : Term
-  pub start₂ : Term
-  pub run₁ : Run
-  pub run₂ : Run
-  pub held₁ : Holds first len₁ start₁
-  pub held₂ : Holds second len₂ start₂
-  pub run-of₁ : RunOf first len₁ work fuel start₁ run₁
-  pub run-of₂ : RunOf second len₂ work fuel start₂ run₂
-  pub verdict : comparing.verdict (outcome run₁) (outcome run₂) (text (reached start₁ run₁)) (text (reached start₂ run₂)) ≡ c
-  pub first-holds : first′ ≡ holding (reached start₁ run₁) first
-  pub second-holds : second′ ≡ holding (reached start₂ run₂) second
-  pub work-cleared : work′ ≡ cleared work
+    pub start₁ : Term
+    pub start₂ : Term
+    pub run₁ : Run
+    pub run₂ : Run
+    pub held₁ : Holds first len₁ start₁
+    pub held₂ : Holds second len₂ start₂
+    pub run-of₁ : RunOf first len₁ work fuel start₁ run₁
+    pub run-of₂ : RunOf second len₂ work fuel start₂ run₂
+    pub verdict : comparing.verdict (outcome run₁) (outcome run₂) (text (reached start₁ run₁)) (text (reached start₂ run₂)) ≡ c
+    pub first-holds : first′ ≡ holding (reached start₁ run₁) first
+    pub second-holds : second′ ≡ holding (reached start₂ run₂) second
+    pub work-cleared : work′ ≡ cleared work
 
 pub record Demands : Type 0 where
   -- ---- 1: a reply is a listed one, and a refusal changes no lent byte
@@ -105,7 +105,6 @@ pub record Demands : Type 0 where
   pub matching-refuses :
       (first second : List ℕ) (number line : ℕ) →
       matchingOf first second ≡ Reply.refused number line → CheckRefuses first number line ⊎ CheckRefuses second number line
-
   -- ---- 2: each step, outcome, count and accepted derivation is the one that the papers name
   -- reading's reply is the one that its relation gives
   pub reads : (bytes : List ℕ) (reply : Reply ℕ) → (readingOf bytes ≡ reply) ↔ ReadsAs bytes reply
@@ -144,7 +143,6 @@ pub record Demands : Type 0 where
   pub matched :
       (first second : List ℕ) (G D : Context) (t u : Term) (W X : Ty) → Claims first (Judgement.judge G t W) → Claims second (Judgement.judge D u X) →
       (matchingOf first second ≡ Reply.answered true) ↔ ((G ≡ D) × (W ≡ X))
-
   -- ---- 3: equal results exactly when the terms turn into each other, and reduction keeps the claimed type
   pub equal-exactly :
       (area₁ work₁ area₁′ work₁′ area₂ work₂ area₂′ work₂′ : List ℕ) (len₁ fuel₁ n₁ s₁ len₂ fuel₂ n₂ s₂ : ℕ) (t u : Term) →
