@@ -1,7 +1,8 @@
 -- The two programs, as functions on the whole of standard input (REQUIREMENTS, Programs): input of another shape than the finishing
 -- program's line is refused ahead of finishing's own refusals.
 use Prim.Native.Nat.{ℕ, _-_}
-use mathlib.Core.List.{List, _++_}
+use mathlib.Core.Bool.{Bool, true, false}
+use mathlib.Core.List.{List, [], _++_}
 use mathlib.Core.Option.{Option, none, some}
 use lib.ListN.{length, take, replicate}
 use Rattle.finish_line.specs.Request.{Request, requestOf}
@@ -30,3 +31,8 @@ finishProgram input = requestLine (requestOf input)
 -- what the checking program prints
 unfoldable pub checkProgram : List ℕ → List ℕ
 checkProgram file = shownCheck (checkingOf file)
+
+-- what goes to standard output: nothing where standard input could not be read
+abbrev pub unlessFailed : Bool → List ℕ → List ℕ
+unlessFailed true line = []
+unlessFailed false line = line

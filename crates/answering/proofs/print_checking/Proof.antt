@@ -11,27 +11,21 @@ use Rattle.answering.proofs.print_checking.Tie as tie
 enum-known-answer : tie.Need-enum-known-answer
 enum-known-answer c = search needs
 
--- src/lib.rt:99:13
 slice-aggregate-print-numbers : tie.Need-slice-aggregate-print-numbers
 slice-aggregate-print-numbers c = search needs
 
--- src/lib.rt:100:13
 number-requires : tie.Need-number-requires
 number-requires c κs = search needs
 
--- src/lib.rt:101:13
 place-requires : tie.Need-place-requires
 place-requires c κs = search needs
 
--- src/lib.rt:98:9
 print-numbers-requires : tie.Need-print-numbers-requires
 print-numbers-requires c κs = search needs
 
--- src/lib.rt:98:9
 same-length : tie.Need-same-length
 same-length c = search needs
 
--- src/lib.rt:98:9
 returns : tie.Need-returns
 returns c =
     let start = c .before .before .before .before .before .before .before .before .before in
@@ -41,19 +35,15 @@ returns c =
     prints _ _ _ (checking-refused (start .args .answer) (number .result) (place .result) refused (number .ensures) (place .ensures))
     (c .before .before .print-numbers .ensures)
 
--- src/lib.rt:105:27
 slice-aggregate-print-count : tie.Need-slice-aggregate-print-count
 slice-aggregate-print-count c = search needs
 
--- src/lib.rt:105:5
 print-count-requires : tie.Need-print-count-requires
 print-count-requires c κs = search needs
 
--- src/lib.rt:93:1
 same-length-2 : tie.Need-same-length-2
 same-length-2 c = search needs
 
--- src/lib.rt:93:1
 returns-2 : tie.Need-returns-2
 returns-2 c =
     let accepted = c .before .before .before .before .before .before .answer .given .1 in

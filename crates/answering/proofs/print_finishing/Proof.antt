@@ -7,27 +7,21 @@ use Rattle.answering.proofs.print_finishing.Tie as tie
 enum-told : tie.Need-enum-told
 enum-told c = search needs
 
--- src/lib.rt:69:13
 slice-aggregate-print-numbers : tie.Need-slice-aggregate-print-numbers
 slice-aggregate-print-numbers c = search needs
 
--- src/lib.rt:70:13
 number-requires : tie.Need-number-requires
 number-requires c κs = search needs
 
--- src/lib.rt:71:13
 place-requires : tie.Need-place-requires
 place-requires c κs = search needs
 
--- src/lib.rt:68:9
 print-numbers-requires : tie.Need-print-numbers-requires
 print-numbers-requires c κs = search needs
 
--- src/lib.rt:68:9
 same-length : tie.Need-same-length
 same-length c = search needs
 
--- src/lib.rt:68:9
 returns : tie.Need-returns
 returns c =
     let start = c .before .before .before .before .before .before .before .before .before .before in
@@ -38,15 +32,12 @@ returns c =
     prints _ _ _ (admission-refused (a .admission) (a .run) (a .area .now) (number .result) (place .result) refused (number .ensures) (place .ensures))
     (c .before .before .print-numbers .ensures)
 
--- src/lib.rt:75:5
 print-run-requires : tie.Need-print-run-requires
 print-run-requires c κs = search needs
 
--- src/lib.rt:63:1
 same-length-2 : tie.Need-same-length-2
 same-length-2 c = search needs
 
--- src/lib.rt:63:1
 returns-2 : tie.Need-returns-2
 returns-2 c =
     let start = c .before .before .before .before .before .before .before .before in
