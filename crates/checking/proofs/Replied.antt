@@ -5,8 +5,9 @@ use mathlib.Core.Path.{_≡_, refl, sym, _∙_, ap, ap₂}
 use mathlib.Core.Bool.{Bool, true, false, _&&_}
 use mathlib.Core.List.{List, [], _∷_}
 use mathlib.Core.Option.{Option, none, some}
+use lib.Dec.{eqb}
 use lib.ListN.{length}
-use Rattle.reading.specs.Reply.{Reply}
+use Rattle.reading.specs.Reply.{Reply, numberIn}
 use Rattle.reading.specs.Reading.{atLetter, readingFrom, readingOf}
 use Rattle.calculus.specs.Limits.{lineLimit}
 use Rattle.calculus.specs.Letter.{Letter, letterOf, owed}
@@ -16,11 +17,12 @@ use Rattle.types.specs.Tests.{isSome}
 use Rattle.fields.specs.declared.Judged.{Judged}
 use Rattle.fields.specs.declared.SixFields.{SixFields}
 use Rattle.premises.specs.declared.Cited.{Cited}
-use Rattle.instances.specs.declared.Rule.{Rule}
+use Rattle.rules.specs.declared.Rule.{Rule}
 use Rattle.fields.specs.Fields.{judgedAt, hasSix, textsAt}
 use Rattle.premises.specs.Cited.{citedOf, citedFit, startOr}
-use Rattle.instances.specs.TextInstance.{isKnown, instanceText, countOf}
-use Rattle.checking.specs.TextChecking.{wellFormed, instanceAt, isAnswered, unless, replyOf, ruleIn, firstIn, secondIn, lineReply}
+use Rattle.rules.specs.Rules.{isKnown, countOf}
+use Rattle.instances.specs.TextInstance.{instanceText}
+use Rattle.checking.specs.TextChecking.{wellFormed, instanceAt, unless, replyOf, ruleIn, firstIn, secondIn, lineReply}
 
 -- ---- the tests of a line, in their order
 
@@ -129,16 +131,16 @@ some-item b (some Letter.I) is = refl
 some-item b (some Letter.B) is = two-some b Term.B is
 some-item b (some Letter.stop) is = two-some b Term.app is
 
--- reading answers a size exactly where the items are the terms owed
-reading-items : (k place : ℕ) (bytes : List ℕ) → isAnswered (readingFrom k place bytes) ≡ wholes k (items bytes)
+-- reading has no number exactly where the items are the terms owed
+reading-items : (k place : ℕ) (bytes : List ℕ) → eqb (numberIn (readingFrom k place bytes)) 0 ≡ wholes k (items bytes)
 reading-items zero place [] = refl
 reading-items zero place (b ∷ bytes) = sym (some-item b (letterOf b) (items bytes))
 reading-items (suc k) place [] = refl
 reading-items (suc k) place (b ∷ bytes) = go (letterOf b) (λ n. reading-items n (suc place) bytes)
   where
     go :
-        (o : Option Letter) → ((n : ℕ) → isAnswered (readingFrom n (suc place) bytes) ≡ wholes n (items bytes)) →
-        isAnswered (atLetter o place (λ l. readingFrom (owed l k) (suc place) bytes)) ≡ wholes (suc k) (push b o (items bytes))
+        (o : Option Letter) → ((n : ℕ) → eqb (numberIn (readingFrom n (suc place) bytes)) 0 ≡ wholes n (items bytes)) →
+        eqb (numberIn (atLetter o place (λ l. readingFrom (owed l k) (suc place) bytes))) 0 ≡ wholes (suc k) (push b o (items bytes))
     go none later = refl
     go (some Letter.J) later = later k
     go (some Letter.R) later = later (suc k) ∙ sym (one-taken k b Term.R (items bytes))
@@ -148,8 +150,8 @@ reading-items (suc k) place (b ∷ bytes) = go (letterOf b) (λ n. reading-items
     go (some Letter.B) later = later (suc (suc k)) ∙ sym (two-taken k b Term.B (items bytes))
     go (some Letter.stop) later = later (suc (suc k)) ∙ sym (two-taken k b Term.app (items bytes))
 
--- reading answers a size exactly where the bytes are a term's text
-pub reading-term : (bytes : List ℕ) → isAnswered (readingOf bytes) ≡ isSome (termOf bytes)
+-- reading has no number exactly where the bytes are a term's text
+pub reading-term : (bytes : List ℕ) → eqb (numberIn (readingOf bytes)) 0 ≡ isSome (termOf bytes)
 unfolding readingOf termOf
 reading-term bytes = reading-items 1 0 bytes ∙ one-item (items bytes)
   where

@@ -26,7 +26,8 @@ use Rattle.derivation_files.specs.Checking.{Found, earlierLine, noPremise, name
 use Rattle.fields.specs.Texts.{textAt}
 use Rattle.fields.specs.Fields.{judgedAt, sixAt, hasSix, Texts, textsAt}
 use Rattle.premises.specs.Cited.{lineIf, citedOf, isDashed, isLine, citedFit, startOr}
-use Rattle.instances.specs.TextInstance.{ruleOf, isKnown, instanceText, countOf}
+use Rattle.rules.specs.Rules.{ruleOf, isKnown, countOf}
+use Rattle.instances.specs.TextInstance.{instanceText}
 use Rattle.checking.specs.TextChecking.{wellFormed, instanceAt, unless, sixReply, ruleIn, firstIn, secondIn, lineReply}
 use Rattle.fields.specs.declared.SixFields.{SixFields}
 use Rattle.premises.specs.declared.Cited.{Cited}

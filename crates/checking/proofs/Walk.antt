@@ -19,7 +19,7 @@ use Rattle.derivation_files.specs.Checking.{Found, earlierLine, foundFields, on
 use Rattle.fields.specs.Fields.{judgedAt, sixAt, hasSix, Texts, textsAt}
 use Rattle.checking.specs.TextChecking.{wellFormed, instanceAt, isAnswered, unless, sixReply, ruleIn, firstIn, secondIn, lineReply}
 use Rattle.premises.specs.Cited.{citedFit}
-use Rattle.instances.specs.TextInstance.{isKnown, countOf}
+use Rattle.rules.specs.Rules.{isKnown, countOf}
 use Rattle.checking.specs.Claim.{claimTexts, nowhere}
 use Rattle.fields.specs.declared.Judged.{Judged}
 use Rattle.checking.proofs.Claimed.{Claimed, claim-start, claim-next, claim-end}

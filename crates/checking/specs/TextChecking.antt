@@ -12,11 +12,12 @@ use Rattle.derivation_files.specs.Line.{nameOf, premiseOf}
 use Rattle.fields.specs.Texts.{textAt}
 use Rattle.fields.specs.Fields.{judgedAt, hasSix, Texts, textsAt}
 use Rattle.premises.specs.Cited.{citedOf, citedFit, startOr}
-use Rattle.instances.specs.TextInstance.{ruleOf, isKnown, instanceText, countOf}
+use Rattle.rules.specs.Rules.{ruleOf, isKnown, countOf}
+use Rattle.instances.specs.TextInstance.{instanceText}
 use Rattle.fields.specs.declared.Judged.{Judged}
 use Rattle.fields.specs.declared.SixFields.{SixFields}
 use Rattle.premises.specs.declared.Cited.{Cited}
-use Rattle.instances.specs.declared.Rule.{Rule}
+use Rattle.rules.specs.declared.Rule.{Rule}
 
 -- the context, the term and the type are well formed
 abbrev pub wellFormed : Texts → Bool

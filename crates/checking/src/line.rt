@@ -13,16 +13,15 @@ use fields::SixFields;
 use fields::has_six;
 use fields::judged_at;
 use fields::texts::bytes_of;
-use instances::Rule;
 use instances::is_instance;
-use instances::is_known;
-use instances::premise_count;
-use instances::rule_of;
 use premises::Cited;
 use premises::cite;
 use premises::premises_fit;
 use premises::start_or;
-use reading::Reading;
+use rules::Rule;
+use rules::is_known;
+use rules::premise_count;
+use rules::rule_of;
 
 // A line of those fields, where `n` lines went before, which begin at `starts`: its refusal, or accepted with its number.
 pub(crate) fn check_line(file: &[u8], starts: &[usize], n: usize, line: SixFields) -> Checking
@@ -64,12 +63,7 @@ fn well_formed(file: &[u8], own: Judged) -> bool
 fn is_term(s: &[u8]) -> bool
     ensures { λ r. ⌜ r ≡ isSome (termOf (now (s .entry))) ⌝ }
 {
-    match reading::read(s) {
-        Reading::Whole(_) => true,
-        Reading::NoLetter(_) => false,
-        Reading::NotWhole(_) => false,
-        Reading::Beyond(_) => false,
-    }
+    reading::number(reading::read(s)) == 0
 }
 
 // Whether the line is an instance of the rule, with the lines that are named for premises.

@@ -20,9 +20,11 @@ use Rattle.types.proofs.Parse.{typeOf-text, types-readable, ty-injective, simpl
 use Rattle.types.proofs.Made.{arrow-text, bind-text}
 use Rattle.derivation_files.specs.Instance.{Premises, sameSimple, sameContext, sameTy, asksJ, asksR, asksH, asksA, asksI, asksB, asksS, isInstance}
 use Rattle.derivation_files.specs.Checking.{premiseCount}
+use Rattle.rules.specs.Rules.{ruleOf}
+use Rattle.rules.specs.declared.Rule.{Rule}
 use Rattle.instances.specs.Behind.{simpleBehind}
 use Rattle.fields.specs.Fields.{Texts}
-use Rattle.instances.specs.TextInstance.{ruleOf, typeText, asksTextJ, asksTextR, asksTextH, asksTextA, asksTextI, asksTextB, asksTextS, instanceText}
+use Rattle.instances.specs.TextInstance.{typeText, asksText, asksTextJ, asksTextR, asksTextH, asksTextA, asksTextI, asksTextB, asksTextS, instanceText}
 use Rattle.slices.proofs.Decimal.{and-both}
 use Rattle.fields.proofs.Joined.{differ}
 use Rattle.instances.proofs.Behind.{behind-text}
@@ -274,3 +276,7 @@ instance-two Name.B (Judgement.judge G t W) (Judgement.judge D u X) (Judgement.j
     ap (λ (b : Bool). b && same (text t) (text (Term.B u v))) (asks-B (Judgement.judge D u X) (Judgement.judge E v Y) G t W)
 instance-two Name.s (Judgement.judge G t W) (Judgement.judge D u X) (Judgement.judge E v Y) e =
     ap (λ (b : Bool). b && same (text t) (text (Term.app u v))) (asks-S (Judgement.judge D u X) (Judgement.judge E v Y) G t W)
+
+-- a test by the rule that is given
+pub asks-by : (rule given : Rule) (own first second : Texts) (r : Bool) → rule ≡ given → r ≡ asksText given own first second → r ≡ asksText rule own first second
+asks-by rule given own first second r e made = made ∙ sym (ap (λ (x : Rule). asksText x own first second) e)

@@ -2,31 +2,17 @@
 -- term is the one that it builds of the premises' terms. `proofs/TextInstance.antt` shows that on the texts of judgements these are the
 -- tests of `derivation_files/specs/Instance.antt`.
 use Prim.Native.Nat.{ℕ}
-use mathlib.Core.Bool.{Bool, true, false, _&&_}
-use mathlib.Core.List.{List, [], _∷_, _++_}
-use mathlib.Core.Option.{Option, none, some}
+use mathlib.Core.Bool.{Bool, false, _&&_}
+use mathlib.Core.List.{List, _++_}
 use Rattle.slices.specs.Same.{same}
-use Rattle.calculus.specs.Letter.{Letter, byte}
 use Rattle.calculus.specs.Types.{Sign, signText}
-use Rattle.calculus.specs.Typing.{Name}
 use Rattle.types.specs.Parse.{typeOf}
 use Rattle.types.specs.Tests.{isSimple}
-use Rattle.instances.specs.Behind.{simpleBehind}
 use Rattle.fields.specs.Fields.{Texts}
-use Rattle.instances.specs.declared.Rule.{Rule}
-use Rattle.instances.specs.declared.Rule.the-variants.{J, R, H, A, F, I, B, S, Unknown}
-
--- the rule of a name
-abbrev pub ruleOf : Option Name → Rule
-ruleOf none = Unknown
-ruleOf (some Name.J) = J
-ruleOf (some Name.R) = R
-ruleOf (some Name.H) = H
-ruleOf (some Name.A) = A
-ruleOf (some Name.f) = F
-ruleOf (some Name.I) = I
-ruleOf (some Name.B) = B
-ruleOf (some Name.s) = S
+use Rattle.rules.specs.Rules.{buildsText}
+use Rattle.rules.specs.declared.Rule.{Rule}
+use Rattle.rules.specs.declared.Rule.the-variants.{J, R, H, A, F, I, B, S, Unknown}
+use Rattle.instances.specs.Behind.{simpleBehind}
 
 -- a type's text that a sign makes of two
 abbrev pub typeText : Sign → List ℕ → List ℕ → List ℕ
@@ -87,42 +73,6 @@ asksText B own first second = asksTextB own first second
 asksText S own first second = asksTextS own first second
 asksText Unknown own first second = false
 
--- the term is the one that the rule builds of the premises' terms
-abbrev pub buildsText : Rule → (term first second : List ℕ) → Bool
-buildsText J term first second = same term (byte Letter.J ∷ [])
-buildsText R term first second = same term (byte Letter.R ∷ first)
-buildsText H term first second = same term (byte Letter.H ∷ (first ++ second))
-buildsText A term first second = same term (byte Letter.A ∷ (first ++ second))
-buildsText F term first second = same term (byte Letter.stop ∷ (first ++ second))
-buildsText I term first second = same term (byte Letter.I ∷ [])
-buildsText B term first second = same term (byte Letter.B ∷ (first ++ second))
-buildsText S term first second = same term (byte Letter.stop ∷ (first ++ second))
-buildsText Unknown term first second = false
-
 -- what the rule asks, and builds
 abbrev pub instanceText : Rule → (own first second : Texts) → Bool
 instanceText rule own first second = asksText rule own first second && buildsText rule (own .term) (first .term) (second .term)
-
--- how many premises the rule has
-abbrev pub countOf : Rule → ℕ
-countOf J = 0
-countOf R = 1
-countOf H = 2
-countOf A = 2
-countOf F = 2
-countOf I = 0
-countOf B = 2
-countOf S = 2
-countOf Unknown = 0
-
--- a rule is named
-abbrev pub isKnown : Rule → Bool
-isKnown J = true
-isKnown R = true
-isKnown H = true
-isKnown A = true
-isKnown F = true
-isKnown I = true
-isKnown B = true
-isKnown S = true
-isKnown Unknown = false

@@ -1,9 +1,9 @@
 -- `instances::asks` meets its contract: each rule's own test is that of the definition. Assumes nothing.
 use mathlib.Core.Path.{refl}
 use mathlib.Core.Bool.{false}
-use Rattle.instances.specs.declared.Rule.the-variants.{J, R, H, A, F, I, B, S, Unknown}
+use Rattle.rules.specs.declared.Rule.the-variants.{J, R, H, A, F, I, B, S, Unknown}
 use Rattle.fields.specs.Fields.{textsAt}
-use Rattle.instances.proofs.Named.{asks-by}
+use Rattle.instances.proofs.TextInstance.{asks-by}
 use borrow.Author.Needs.{needs}
 use Rattle.instances.proofs.asks.Statement.{statement}
 use Rattle.instances.proofs.asks.Tie as tie

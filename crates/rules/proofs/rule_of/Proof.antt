@@ -1,13 +1,13 @@
--- `instances::rule_of` meets its contract: a rule is named by one letter. Assumes nothing.
+-- `rules::rule_of` meets its contract: a rule is named by one letter. Assumes nothing.
 use Prim.Native.Nat.{ℕ}
 use mathlib.Core.Path.{_∙_, ap}
 use mathlib.Core.List.{List}
 use Rattle.derivation_files.specs.Line.{nameOf}
-use Rattle.instances.specs.TextInstance.{ruleOf}
-use Rattle.instances.proofs.Named.{field-one, field-other}
+use Rattle.rules.specs.Rules.{ruleOf}
+use Rattle.rules.proofs.Named.{field-one, field-other}
 use borrow.Author.Needs.{needs}
-use Rattle.instances.proofs.rule_of.Statement.{statement}
-use Rattle.instances.proofs.rule_of.Tie as tie
+use Rattle.rules.proofs.rule_of.Statement.{statement}
+use Rattle.rules.proofs.rule_of.Tie as tie
 
 bytes-of-requires : tie.Need-bytes-of-requires
 bytes-of-requires c κs = search needs

@@ -1,4 +1,4 @@
--- The rule that a letter names, and tests by the rule. Assumes nothing.
+-- The rule that a letter names, and the term that a rule builds. Assumes nothing.
 use Prim.Native.Nat.{ℕ}
 use native.Mathlib.Omega.{arith}
 use mathlib.Core.Path.{_≡_, refl, sym, _∙_, ap}
@@ -10,10 +10,9 @@ use lib.Dec.{eqb}
 use lib.ListN.{length, getD}
 use Rattle.calculus.specs.Typing.{Name, nameByte}
 use Rattle.derivation_files.specs.Line.{names, chosenName, findName, nameOf}
-use Rattle.fields.specs.Fields.{Texts}
-use Rattle.instances.specs.declared.Rule.{Rule}
-use Rattle.instances.specs.declared.Rule.the-variants.{Unknown}
-use Rattle.instances.specs.TextInstance.{ruleOf, asksText, buildsText}
+use Rattle.rules.specs.declared.Rule.{Rule}
+use Rattle.rules.specs.declared.Rule.the-variants.{Unknown}
+use Rattle.rules.specs.Rules.{ruleOf, buildsText}
 
 -- the rule of a name's byte
 pub named : (name : Name) (b : ℕ) → b ≡ nameByte name → ruleOf (some name) ≡ ruleOf (findName b names)
@@ -65,8 +64,5 @@ field-other (b ∷ []) n = absurd (n refl)
 field-other (b ∷ c ∷ s) n = refl
 
 -- a test by the rule that is given
-pub asks-by : (rule given : Rule) (own first second : Texts) (r : Bool) → rule ≡ given → r ≡ asksText given own first second → r ≡ asksText rule own first second
-asks-by rule given own first second r e made = made ∙ sym (ap (λ (x : Rule). asksText x own first second) e)
-
 pub builds-by : (rule given : Rule) (term first second : List ℕ) (r : Bool) → rule ≡ given → r ≡ buildsText given term first second → r ≡ buildsText rule term first second
 builds-by rule given term first second r e made = made ∙ sym (ap (λ (x : Rule). buildsText x term first second) e)

@@ -1,8 +1,8 @@
--- `instances::rule_named` meets its contract: each test names a rule. Assumes nothing.
+-- `rules::rule_named` meets its contract: each test names a rule. Assumes nothing.
 use Rattle.calculus.specs.Typing.{Name}
-use Rattle.instances.proofs.Named.{named, unnamed, other}
-use Rattle.instances.proofs.rule_named.Statement.{statement}
-use Rattle.instances.proofs.rule_named.Tie as tie
+use Rattle.rules.proofs.Named.{named, unnamed, other}
+use Rattle.rules.proofs.rule_named.Statement.{statement}
+use Rattle.rules.proofs.rule_named.Tie as tie
 
 returns : tie.Need-returns
 returns c = named Name.J (c .before .args .b) (c .if1 .taken)

@@ -1,15 +1,15 @@
--- `instances::builds` meets its contract: each rule's letter and terms are those of the definition. Assumes nothing.
+-- `rules::builds` meets its contract: each rule's letter and terms are those of the definition. Assumes nothing.
 use Prim.Native.Nat.{ℕ}
 use mathlib.Core.Path.{refl, _∙_, ap}
 use mathlib.Core.Bool.{false}
 use mathlib.Core.List.{List, _∷_, append-nil}
 use Rattle.slices.specs.Same.{same}
-use Rattle.instances.specs.declared.Rule.the-variants.{J, R, H, A, F, I, B, S, Unknown}
+use Rattle.rules.specs.declared.Rule.the-variants.{J, R, H, A, F, I, B, S, Unknown}
 use Rattle.fields.specs.Texts.{textAt}
-use Rattle.instances.proofs.Named.{builds-by}
+use Rattle.rules.proofs.Named.{builds-by}
 use borrow.Author.Needs.{needs}
-use Rattle.instances.proofs.builds.Statement.{statement}
-use Rattle.instances.proofs.builds.Tie as tie
+use Rattle.rules.proofs.builds.Statement.{statement}
+use Rattle.rules.proofs.builds.Tie as tie
 
 enum-told : tie.Need-enum-told
 enum-told c = search needs
