@@ -39,7 +39,9 @@ six-at-requires : tie.Need-six-at-requires Inv-loop μ-loop
 six-at-requires c κs = search needs
 
 slice-aggregate-check-line : tie.Need-slice-aggregate-check-line Inv-loop μ-loop
-slice-aggregate-check-line c = sym (c .before .before .before .loop .inv .size)
+slice-aggregate-check-line c =
+    let at-loop = c .before .before .before in
+    sym (at-loop .loop .inv .size)
 
 check-line-requires : tie.Need-check-line-requires Inv-loop μ-loop
 check-line-requires c κs =
@@ -134,7 +136,10 @@ loop-again c =
     (again file starts n at claim (c .before .before .before .before .before .before .before .before .loop .inv) (c .before .before .before .before .before .before .before .before .before .before .before .pre .0) (c .before .before .before .before .before .before .before .loop-test .taken) good (c .before .before .before .before .before .before .before .before .before .before .before .pre .1) .1)
 
 returns-2 : tie.Need-returns-2 Inv-loop μ-loop
-returns-2 c = at-end (c .before .before .before .before .args .file .now) (c .before .loop .starts) (c .before .loop .n) (c .before .loop .at) (c .before .loop .claim) (c .before .loop .inv) (c .loop-test .left)
+returns-2 c =
+    let start = c .before .before .before .before in
+    at-end (start .args .file .now) (c .before .loop .starts) (c .before .loop .n) (c .before .loop .at) (c .before .loop .claim)
+    (c .before .loop .inv) (c .loop-test .left)
 
 pub check-lines-spec : {M : Type 1} → statement M
 check-lines-spec =

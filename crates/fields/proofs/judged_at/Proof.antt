@@ -21,7 +21,12 @@ field-at-requires-3 c κs = search needs
 
 returns : tie.Need-returns
 returns c =
-    three-fields (c .before .before .before .before .before .before .args .file .now) (c .before .before .before .before .before .before .args .from) (c .before .before .before .before .field-at .result) (c .before .before .field-at2 .result) (c .field-at3 .result) (c .before .before .before .behind .result) (c .before .behind2 .result) (c .before .before .before .before .field-at .ensures) (c .before .before .before .behind .ensures) (c .before .before .field-at2 .ensures) (c .before .behind2 .ensures) (c .field-at3 .ensures)
+    let at-behind = c .before .before .before in
+    let at-field-at = at-behind .before in
+    let start = at-field-at .before .before in
+    three-fields (start .args .file .now) (start .args .from) (at-field-at .field-at .result) (c .before .before .field-at2 .result)
+    (c .field-at3 .result) (at-behind .behind .result) (c .before .behind2 .result) (at-field-at .field-at .ensures)
+    (at-behind .behind .ensures) (c .before .before .field-at2 .ensures) (c .before .behind2 .ensures) (c .field-at3 .ensures)
 
 pub judged-at-spec : {M : Type 1} → statement M
 judged-at-spec =

@@ -27,7 +27,15 @@ field-at-requires-3 c κs = search needs
 
 returns : tie.Need-returns
 returns c =
-    six-fields (c .before .before .before .before .before .before .before .before .args .file .now) (c .before .before .before .before .before .before .before .before .args .from) (c .before .before .before .before .before .before .judged-at .result) (c .before .before .before .before .field-at .result) (c .before .before .field-at2 .result) (c .field-at3 .result) (c .before .before .before .before .before .behind .result) (c .before .before .before .behind2 .result) (c .before .behind3 .result) (c .before .before .before .before .before .before .judged-at .ensures) (c .before .before .before .before .before .behind .ensures) (c .before .before .before .before .field-at .ensures) (c .before .before .before .behind2 .ensures) (c .before .before .field-at2 .ensures) (c .before .behind3 .ensures) (c .field-at3 .ensures)
+    let at-behind2 = c .before .before .before in
+    let at-field-at = at-behind2 .before in
+    let at-behind = at-field-at .before in
+    let at-judged-at = at-behind .before in
+    let start = at-judged-at .before .before in
+    six-fields (start .args .file .now) (start .args .from) (at-judged-at .judged-at .result) (at-field-at .field-at .result)
+    (c .before .before .field-at2 .result) (c .field-at3 .result) (at-behind .behind .result) (at-behind2 .behind2 .result)
+    (c .before .behind3 .result) (at-judged-at .judged-at .ensures) (at-behind .behind .ensures) (at-field-at .field-at .ensures)
+    (at-behind2 .behind2 .ensures) (c .before .before .field-at2 .ensures) (c .before .behind3 .ensures) (c .field-at3 .ensures)
 
 pub six-at-spec : {M : Type 1} → statement M
 six-at-spec =

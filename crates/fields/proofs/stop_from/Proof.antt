@@ -22,13 +22,20 @@ shared-slice-read-if1 : tie.Need-shared-slice-read-if1 Inv-loop μ-loop
 shared-slice-read-if1 c = omega arith
 
 returns : tie.Need-returns Inv-loop μ-loop
-returns c = at-tab (c .before .before .before .loop .at) (c .before .before .before .before .args .file .now) (c .before .before .loop-test .taken) (c .if1 .taken) ∙ c .before .before .before .loop .inv
+returns c =
+    let at-loop = c .before .before .before in
+    let start = at-loop .before in
+    at-tab (at-loop .loop .at) (start .args .file .now) (c .before .before .loop-test .taken) (c .if1 .taken) ∙ at-loop .loop .inv
 
 shared-slice-read-if2 : tie.Need-shared-slice-read-if2 Inv-loop μ-loop
 shared-slice-read-if2 c = omega arith
 
 returns-2 : tie.Need-returns-2 Inv-loop μ-loop
-returns-2 c = at-feed (c .before .before .before .before .before .loop .at) (c .before .before .before .before .before .before .args .file .now) (c .before .before .before .before .loop-test .taken) (c .if2 .taken) ∙ c .before .before .before .before .before .loop .inv
+returns-2 c =
+    let at-loop-test = c .before .before .before .before in
+    let at-loop = at-loop-test .before in
+    let start = at-loop .before in
+    at-feed (at-loop .loop .at) (start .args .file .now) (at-loop-test .loop-test .taken) (c .if2 .taken) ∙ at-loop .loop .inv
 
 add-at : tie.Need-add-at Inv-loop μ-loop
 add-at c = omega arith
@@ -37,7 +44,12 @@ loop-less : tie.Need-loop-less Inv-loop μ-loop
 loop-less c = omega arith
 
 loop-again : tie.Need-loop-again Inv-loop μ-loop
-loop-again c = at-other (c .before .before .before .before .before .loop .at) (c .before .before .before .before .before .before .args .file .now) (c .before .before .before .before .loop-test .taken) (c .before .before .if1 .left) (c .if2 .left) ∙ c .before .before .before .before .before .loop .inv
+loop-again c =
+    let at-loop-test = c .before .before .before .before in
+    let at-loop = at-loop-test .before in
+    let start = at-loop .before in
+    at-other (at-loop .loop .at) (start .args .file .now) (at-loop-test .loop-test .taken) (c .before .before .if1 .left) (c .if2 .left) ∙
+    at-loop .loop .inv
 
 returns-3 : tie.Need-returns-3 Inv-loop μ-loop
 returns-3 c = at-end (c .before .loop .at) (c .before .before .args .file .now) (c .loop-test .left) ∙ c .before .loop .inv

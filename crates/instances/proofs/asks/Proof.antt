@@ -60,31 +60,67 @@ enum-told-9 : tie.Need-enum-told-9
 enum-told-9 c = search needs
 
 returns : tie.Need-returns
-returns c = asks-by (c .before .before .before .before .args .rule) J (textsAt (c .before .before .before .before .args .own) (c .before .before .before .before .args .file .now)) (textsAt (c .before .before .before .before .args .first) (c .before .before .before .before .args .file .now)) (textsAt (c .before .before .before .before .args .second) (c .before .before .before .before .args .file .now)) (c .asks-j .result) (c .before .enum-told .given .1) (c .asks-j .ensures)
+returns c =
+    let start = c .before .before .before .before in
+    asks-by (start .args .rule) J (textsAt (start .args .own) (start .args .file .now))
+    (textsAt (start .args .first) (start .args .file .now)) (textsAt (start .args .second) (start .args .file .now)) (c .asks-j .result)
+    (c .before .enum-told .given .1) (c .asks-j .ensures)
 
 returns-2 : tie.Need-returns-2
-returns-2 c = asks-by (c .before .before .before .before .args .rule) R (textsAt (c .before .before .before .before .args .own) (c .before .before .before .before .args .file .now)) (textsAt (c .before .before .before .before .args .first) (c .before .before .before .before .args .file .now)) (textsAt (c .before .before .before .before .args .second) (c .before .before .before .before .args .file .now)) (c .asks-r .result) (c .before .enum-told2 .given .1) (c .asks-r .ensures)
+returns-2 c =
+    let start = c .before .before .before .before in
+    asks-by (start .args .rule) R (textsAt (start .args .own) (start .args .file .now))
+    (textsAt (start .args .first) (start .args .file .now)) (textsAt (start .args .second) (start .args .file .now)) (c .asks-r .result)
+    (c .before .enum-told2 .given .1) (c .asks-r .ensures)
 
 returns-3 : tie.Need-returns-3
-returns-3 c = asks-by (c .before .before .before .before .args .rule) H (textsAt (c .before .before .before .before .args .own) (c .before .before .before .before .args .file .now)) (textsAt (c .before .before .before .before .args .first) (c .before .before .before .before .args .file .now)) (textsAt (c .before .before .before .before .args .second) (c .before .before .before .before .args .file .now)) (c .asks-h .result) (c .before .enum-told3 .given .1) (c .asks-h .ensures)
+returns-3 c =
+    let start = c .before .before .before .before in
+    asks-by (start .args .rule) H (textsAt (start .args .own) (start .args .file .now))
+    (textsAt (start .args .first) (start .args .file .now)) (textsAt (start .args .second) (start .args .file .now)) (c .asks-h .result)
+    (c .before .enum-told3 .given .1) (c .asks-h .ensures)
 
 returns-4 : tie.Need-returns-4
-returns-4 c = asks-by (c .before .before .before .before .args .rule) A (textsAt (c .before .before .before .before .args .own) (c .before .before .before .before .args .file .now)) (textsAt (c .before .before .before .before .args .first) (c .before .before .before .before .args .file .now)) (textsAt (c .before .before .before .before .args .second) (c .before .before .before .before .args .file .now)) (c .asks-a .result) (c .before .enum-told4 .given .1) (c .asks-a .ensures)
+returns-4 c =
+    let start = c .before .before .before .before in
+    asks-by (start .args .rule) A (textsAt (start .args .own) (start .args .file .now))
+    (textsAt (start .args .first) (start .args .file .now)) (textsAt (start .args .second) (start .args .file .now)) (c .asks-a .result)
+    (c .before .enum-told4 .given .1) (c .asks-a .ensures)
 
 returns-5 : tie.Need-returns-5
-returns-5 c = asks-by (c .before .before .before .before .args .rule) F (textsAt (c .before .before .before .before .args .own) (c .before .before .before .before .args .file .now)) (textsAt (c .before .before .before .before .args .first) (c .before .before .before .before .args .file .now)) (textsAt (c .before .before .before .before .args .second) (c .before .before .before .before .args .file .now)) (c .asks-h2 .result) (c .before .enum-told5 .given .1) (c .asks-h2 .ensures)
+returns-5 c =
+    let start = c .before .before .before .before in
+    asks-by (start .args .rule) F (textsAt (start .args .own) (start .args .file .now))
+    (textsAt (start .args .first) (start .args .file .now)) (textsAt (start .args .second) (start .args .file .now)) (c .asks-h2 .result)
+    (c .before .enum-told5 .given .1) (c .asks-h2 .ensures)
 
 returns-6 : tie.Need-returns-6
-returns-6 c = asks-by (c .before .before .before .before .args .rule) I (textsAt (c .before .before .before .before .args .own) (c .before .before .before .before .args .file .now)) (textsAt (c .before .before .before .before .args .first) (c .before .before .before .before .args .file .now)) (textsAt (c .before .before .before .before .args .second) (c .before .before .before .before .args .file .now)) (c .asks-i .result) (c .before .enum-told6 .given .1) (c .asks-i .ensures)
+returns-6 c =
+    let start = c .before .before .before .before in
+    asks-by (start .args .rule) I (textsAt (start .args .own) (start .args .file .now))
+    (textsAt (start .args .first) (start .args .file .now)) (textsAt (start .args .second) (start .args .file .now)) (c .asks-i .result)
+    (c .before .enum-told6 .given .1) (c .asks-i .ensures)
 
 returns-7 : tie.Need-returns-7
-returns-7 c = asks-by (c .before .before .before .before .args .rule) B (textsAt (c .before .before .before .before .args .own) (c .before .before .before .before .args .file .now)) (textsAt (c .before .before .before .before .args .first) (c .before .before .before .before .args .file .now)) (textsAt (c .before .before .before .before .args .second) (c .before .before .before .before .args .file .now)) (c .asks-b .result) (c .before .enum-told7 .given .1) (c .asks-b .ensures)
+returns-7 c =
+    let start = c .before .before .before .before in
+    asks-by (start .args .rule) B (textsAt (start .args .own) (start .args .file .now))
+    (textsAt (start .args .first) (start .args .file .now)) (textsAt (start .args .second) (start .args .file .now)) (c .asks-b .result)
+    (c .before .enum-told7 .given .1) (c .asks-b .ensures)
 
 returns-8 : tie.Need-returns-8
-returns-8 c = asks-by (c .before .before .before .before .args .rule) S (textsAt (c .before .before .before .before .args .own) (c .before .before .before .before .args .file .now)) (textsAt (c .before .before .before .before .args .first) (c .before .before .before .before .args .file .now)) (textsAt (c .before .before .before .before .args .second) (c .before .before .before .before .args .file .now)) (c .asks-s .result) (c .before .enum-told8 .given .1) (c .asks-s .ensures)
+returns-8 c =
+    let start = c .before .before .before .before in
+    asks-by (start .args .rule) S (textsAt (start .args .own) (start .args .file .now))
+    (textsAt (start .args .first) (start .args .file .now)) (textsAt (start .args .second) (start .args .file .now)) (c .asks-s .result)
+    (c .before .enum-told8 .given .1) (c .asks-s .ensures)
 
 returns-9 : tie.Need-returns-9
-returns-9 c = asks-by (c .before .before .before .args .rule) Unknown (textsAt (c .before .before .before .args .own) (c .before .before .before .args .file .now)) (textsAt (c .before .before .before .args .first) (c .before .before .before .args .file .now)) (textsAt (c .before .before .before .args .second) (c .before .before .before .args .file .now)) false (c .enum-told9 .given .1) refl
+returns-9 c =
+    let start = c .before .before .before in
+    asks-by (start .args .rule) Unknown (textsAt (start .args .own) (start .args .file .now))
+    (textsAt (start .args .first) (start .args .file .now)) (textsAt (start .args .second) (start .args .file .now)) false
+    (c .enum-told9 .given .1) refl
 
 pub asks-spec : {M : Type 1} → statement M
 asks-spec =

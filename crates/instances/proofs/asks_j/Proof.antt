@@ -15,7 +15,10 @@ same-text-requires : tie.Need-same-text-requires
 same-text-requires c κs = search needs
 
 returns : tie.Need-returns
-returns c = c .same-text .ensures ∙ ap (λ (s : List ℕ). same s (textsAt (c .before .before .before .args .own) (c .before .before .before .args .file .now) .type)) (c .before .simple-behind .ensures)
+returns c =
+    let start = c .before .before .before in
+    c .same-text .ensures ∙ ap (λ (s : List ℕ). same s (textsAt (start .args .own) (start .args .file .now) .type))
+    (c .before .simple-behind .ensures)
 
 pub asks-j-spec : {M : Type 1} → statement M
 asks-j-spec = tie.close (tie.spec simple-behind-requires same-text-requires returns)

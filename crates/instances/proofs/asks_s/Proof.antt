@@ -17,10 +17,11 @@ same-text-requires-3 c κs = search needs
 
 returns : tie.Need-returns
 returns c =
+    let at-same-text = c .before .before .before in
     three-made _ _ _ (c .before .before .if1 .if2) (c .same-text3 .result)
     (⊎-elim
-    (λ w. inl (sym (c .before .before .before .same-text .ensures) ∙ w .0 .taken, w .2 ∙ w .1 .ensures))
-    (λ w. inr (sym (c .before .before .before .same-text .ensures) ∙ w .0 .left, w .1 ∙ w .0 .left))
+    (λ w. inl (sym (at-same-text .same-text .ensures) ∙ w .0 .taken, w .2 ∙ w .1 .ensures))
+    (λ w. inr (sym (at-same-text .same-text .ensures) ∙ w .0 .left, w .1 ∙ w .0 .left))
     (c .before .before .if1 .came))
     (c .before .if2 .taken) (c .same-text3 .ensures)
 

@@ -15,7 +15,9 @@ enum-told c = search needs
 
 returns : tie.Need-returns
 returns c =
-    first-refused (c .before .before .before .before .args .first .now) (c .before .before .before .before .args .second .now) (c .before .check-claim .result .answer) (c .before .check-claim .ensures .0) (c .match .keys2)
+    let start = c .before .before .before .before in
+    first-refused (start .args .first .now) (start .args .second .now) (c .before .check-claim .result .answer)
+    (c .before .check-claim .ensures .0) (c .match .keys2)
 
 check-claim-requires-2 : tie.Need-check-claim-requires-2
 check-claim-requires-2 c κs = search needs
@@ -25,7 +27,10 @@ enum-told-2 c = search needs
 
 returns-2 : tie.Need-returns-2
 returns-2 c =
-    second-refused (c .before .before .before .before .before .before .before .args .first .now) (c .before .before .before .before .before .before .before .args .second .now) (c .before .before .before .before .check-claim .ensures .0) (c .before .before .enum-told .given .1)
+    let at-check-claim = c .before .before .before .before in
+    let start = at-check-claim .before .before .before in
+    second-refused (start .args .first .now) (start .args .second .now) (at-check-claim .check-claim .ensures .0)
+    (c .before .before .enum-told .given .1)
     (c .before .check-claim2 .result .answer) (c .before .check-claim2 .ensures .0) (c .match2 .keys2)
 
 same-claim-requires : tie.Need-same-claim-requires

@@ -23,10 +23,14 @@ byte-at-requires : tie.Need-byte-at-requires Inv-loop μ-loop
 byte-at-requires c κs = search needs
 
 returns : tie.Need-returns Inv-loop μ-loop
-returns c = leading-zero (c .before .before .before .args .s .now) (sym (c .before .byte-at .ensures) ∙ c .if1 .taken)
+returns c =
+    let start = c .before .before .before in
+    leading-zero (start .args .s .now) (sym (c .before .byte-at .ensures) ∙ c .if1 .taken)
 
 loop-holds : tie.Need-loop-holds Inv-loop μ-loop
-loop-holds c = (omega arith, start (c .before .before .before .args .s .now) (λ e. c .if1 .left (c .before .byte-at .ensures ∙ e)))
+loop-holds c =
+    let at-start = c .before .before .before in
+    (omega arith, start (at-start .args .s .now) (λ e. c .if1 .left (c .before .byte-at .ensures ∙ e)))
 
 shared-slice-read-digit-of : tie.Need-shared-slice-read-digit-of Inv-loop μ-loop
 shared-slice-read-digit-of c = omega arith
@@ -35,7 +39,12 @@ digit-of-requires : tie.Need-digit-of-requires Inv-loop μ-loop
 digit-of-requires c κs = search needs
 
 returns-2 : tie.Need-returns-2 Inv-loop μ-loop
-returns-2 c = at-none (c .before .before .before .before .loop .value) (c .before .before .before .before .loop .at) (c .before .digit-of .result) (c .before .before .before .before .before .before .before .before .args .s .now) (c .before .before .before .loop-test .taken) (c .before .digit-of .ensures) (c .if2 .taken) ∙ c .before .before .before .before .loop .inv .1
+returns-2 c =
+    let at-loop-test = c .before .before .before in
+    let at-loop = at-loop-test .before in
+    let start = at-loop .before .before .before .before in
+    at-none (at-loop .loop .value) (at-loop .loop .at) (c .before .digit-of .result) (start .args .s .now) (at-loop-test .loop-test .taken)
+    (c .before .digit-of .ensures) (c .if2 .taken) ∙ at-loop .loop .inv .1
 
 mul-value : tie.Need-mul-value Inv-loop μ-loop
 mul-value c = omega arith
@@ -44,7 +53,14 @@ add-value : tie.Need-add-value Inv-loop μ-loop
 add-value c = let few = digit-few (getD (c .before .before .before .before .before .before .before .before .args .s .now) (c .before .before .before .before .loop .at) 0) (c .before .digit-of .result) (c .before .digit-of .ensures) (c .if2 .left) in omega arith
 
 returns-3 : tie.Need-returns-3 Inv-loop μ-loop
-returns-3 c = at-large (c .before .before .before .before .before .loop .value * 10 + c .before .before .digit-of .result) (drop (c .before .before .before .before .before .loop .at + 1) (c .before .before .before .before .before .before .before .before .before .args .s .now)) (c .if3 .taken) ∙ ap (upTo lineLimit) (at-some (c .before .before .before .before .before .loop .value) (c .before .before .before .before .before .loop .at) (c .before .before .digit-of .result) (c .before .before .before .before .before .before .before .before .before .args .s .now) (c .before .before .before .before .loop-test .taken) (c .before .before .digit-of .ensures) (c .before .if2 .left)) ∙ c .before .before .before .before .before .loop .inv .1
+returns-3 c =
+    let at-loop-test = c .before .before .before .before in
+    let at-loop = at-loop-test .before in
+    let start = at-loop .before .before .before .before in
+    at-large (at-loop .loop .value * 10 + c .before .before .digit-of .result) (drop (at-loop .loop .at + 1) (start .args .s .now))
+    (c .if3 .taken) ∙ ap (upTo lineLimit)
+    (at-some (at-loop .loop .value) (at-loop .loop .at) (c .before .before .digit-of .result) (start .args .s .now) (at-loop-test .loop-test .taken) (c .before .before .digit-of .ensures) (c .before .if2 .left))
+    ∙ at-loop .loop .inv .1
 
 add-at : tie.Need-add-at Inv-loop μ-loop
 add-at c = omega arith
@@ -53,10 +69,17 @@ loop-less : tie.Need-loop-less Inv-loop μ-loop
 loop-less c = omega arith
 
 loop-again : tie.Need-loop-again Inv-loop μ-loop
-loop-again c = (c .if3 .left, ap (upTo lineLimit) (at-some (c .before .before .before .before .before .loop .value) (c .before .before .before .before .before .loop .at) (c .before .before .digit-of .result) (c .before .before .before .before .before .before .before .before .before .args .s .now) (c .before .before .before .before .loop-test .taken) (c .before .before .digit-of .ensures) (c .before .if2 .left)) ∙ c .before .before .before .before .before .loop .inv .1)
+loop-again c =
+    let at-loop-test = c .before .before .before .before in
+    let at-loop = at-loop-test .before in
+    let start = at-loop .before .before .before .before in
+    (c .if3 .left, ap (upTo lineLimit) (at-some (at-loop .loop .value) (at-loop .loop .at) (c .before .before .digit-of .result) (start .args .s .now) (at-loop-test .loop-test .taken) (c .before .before .digit-of .ensures) (c .before .if2 .left)) ∙ at-loop .loop .inv .1)
 
 returns-4 : tie.Need-returns-4 Inv-loop μ-loop
-returns-4 c = at-end (c .before .loop .value) (c .before .loop .at) (c .before .before .before .before .before .args .s .now) (c .loop-test .left) (c .before .loop .inv .0) ∙ c .before .loop .inv .1
+returns-4 c =
+    let start = c .before .before .before .before .before in
+    at-end (c .before .loop .value) (c .before .loop .at) (start .args .s .now) (c .loop-test .left) (c .before .loop .inv .0) ∙ c .before
+    .loop .inv .1
 
 pub number-of-spec : {M : Type 1} → statement M
 number-of-spec =

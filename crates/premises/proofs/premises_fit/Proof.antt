@@ -38,12 +38,18 @@ is-line-requires-3 c κs = search needs
 
 returns-5 : tie.Need-returns-5
 returns-5 c =
-    two-fit (c .before .before .before .before .before .args .count) (c .before .before .before .before .before .args .first) (c .before .before .before .before .before .args .second) (c .is-line3 .result) (c .before .before .before .before .if1 .left) (c .before .before .before .if3 .left)
+    let at-if3 = c .before .before .before in
+    let at-if1 = at-if3 .before in
+    let start = at-if1 .before in
+    two-fit (start .args .count) (start .args .first) (start .args .second) (c .is-line3 .result) (at-if1 .if1 .left) (at-if3 .if3 .left)
     (two-made _ _ (c .is-line3 .result) (sym (c .before .before .is-line2 .ensures) ∙ c .before .if5 .taken) (c .is-line3 .ensures))
 
 returns-6 : tie.Need-returns-6
 returns-6 c =
-    two-fit (c .before .before .before .before .args .count) (c .before .before .before .before .args .first) (c .before .before .before .before .args .second) (c .before .is-line2 .result) (c .before .before .before .if1 .left) (c .before .before .if3 .left)
+    let at-if1 = c .before .before .before in
+    let start = at-if1 .before in
+    two-fit (start .args .count) (start .args .first) (start .args .second) (c .before .is-line2 .result) (at-if1 .if1 .left)
+    (c .before .before .if3 .left)
     (c .if5 .left ∙ two-missed _ _ (sym (c .before .is-line2 .ensures) ∙ c .if5 .left))
 
 pub premises-fit-spec : {M : Type 1} → statement M

@@ -63,31 +63,68 @@ enum-told-9 : tie.Need-enum-told-9
 enum-told-9 c = search needs
 
 returns : tie.Need-returns
-returns c = builds-by (c .before .before .before .before .args .rule) J (textAt (c .before .before .before .before .args .term) (c .before .before .before .before .args .file .now)) (textAt (c .before .before .before .before .args .first) (c .before .before .before .before .args .file .now)) (textAt (c .before .before .before .before .args .second) (c .before .before .before .before .args .file .now)) (c .is-join .result) (c .before .enum-told .given .1) (c .is-join .ensures)
+returns c =
+    let start = c .before .before .before .before in
+    builds-by (start .args .rule) J (textAt (start .args .term) (start .args .file .now))
+    (textAt (start .args .first) (start .args .file .now)) (textAt (start .args .second) (start .args .file .now)) (c .is-join .result)
+    (c .before .enum-told .given .1) (c .is-join .ensures)
 
 returns-2 : tie.Need-returns-2
-returns-2 c = builds-by (c .before .before .before .before .args .rule) R (textAt (c .before .before .before .before .args .term) (c .before .before .before .before .args .file .now)) (textAt (c .before .before .before .before .args .first) (c .before .before .before .before .args .file .now)) (textAt (c .before .before .before .before .args .second) (c .before .before .before .before .args .file .now)) (c .is-join2 .result) (c .before .enum-told2 .given .1) (c .is-join2 .ensures ∙ ap (λ (s : List ℕ). same (textAt (c .before .before .before .before .args .term) (c .before .before .before .before .args .file .now)) (82 ∷ s)) (append-nil (textAt (c .before .before .before .before .args .first) (c .before .before .before .before .args .file .now))))
+returns-2 c =
+    let start = c .before .before .before .before in
+    builds-by (start .args .rule) R (textAt (start .args .term) (start .args .file .now))
+    (textAt (start .args .first) (start .args .file .now)) (textAt (start .args .second) (start .args .file .now)) (c .is-join2 .result)
+    (c .before .enum-told2 .given .1)
+    (c .is-join2 .ensures ∙ ap (λ (s : List ℕ). same (textAt (start .args .term) (start .args .file .now)) (82 ∷ s)) (append-nil (textAt (start .args .first) (start .args .file .now))))
 
 returns-3 : tie.Need-returns-3
-returns-3 c = builds-by (c .before .before .before .before .args .rule) H (textAt (c .before .before .before .before .args .term) (c .before .before .before .before .args .file .now)) (textAt (c .before .before .before .before .args .first) (c .before .before .before .before .args .file .now)) (textAt (c .before .before .before .before .args .second) (c .before .before .before .before .args .file .now)) (c .is-join3 .result) (c .before .enum-told3 .given .1) (c .is-join3 .ensures)
+returns-3 c =
+    let start = c .before .before .before .before in
+    builds-by (start .args .rule) H (textAt (start .args .term) (start .args .file .now))
+    (textAt (start .args .first) (start .args .file .now)) (textAt (start .args .second) (start .args .file .now)) (c .is-join3 .result)
+    (c .before .enum-told3 .given .1) (c .is-join3 .ensures)
 
 returns-4 : tie.Need-returns-4
-returns-4 c = builds-by (c .before .before .before .before .args .rule) A (textAt (c .before .before .before .before .args .term) (c .before .before .before .before .args .file .now)) (textAt (c .before .before .before .before .args .first) (c .before .before .before .before .args .file .now)) (textAt (c .before .before .before .before .args .second) (c .before .before .before .before .args .file .now)) (c .is-join4 .result) (c .before .enum-told4 .given .1) (c .is-join4 .ensures)
+returns-4 c =
+    let start = c .before .before .before .before in
+    builds-by (start .args .rule) A (textAt (start .args .term) (start .args .file .now))
+    (textAt (start .args .first) (start .args .file .now)) (textAt (start .args .second) (start .args .file .now)) (c .is-join4 .result)
+    (c .before .enum-told4 .given .1) (c .is-join4 .ensures)
 
 returns-5 : tie.Need-returns-5
-returns-5 c = builds-by (c .before .before .before .before .args .rule) F (textAt (c .before .before .before .before .args .term) (c .before .before .before .before .args .file .now)) (textAt (c .before .before .before .before .args .first) (c .before .before .before .before .args .file .now)) (textAt (c .before .before .before .before .args .second) (c .before .before .before .before .args .file .now)) (c .is-join5 .result) (c .before .enum-told5 .given .1) (c .is-join5 .ensures)
+returns-5 c =
+    let start = c .before .before .before .before in
+    builds-by (start .args .rule) F (textAt (start .args .term) (start .args .file .now))
+    (textAt (start .args .first) (start .args .file .now)) (textAt (start .args .second) (start .args .file .now)) (c .is-join5 .result)
+    (c .before .enum-told5 .given .1) (c .is-join5 .ensures)
 
 returns-6 : tie.Need-returns-6
-returns-6 c = builds-by (c .before .before .before .before .args .rule) I (textAt (c .before .before .before .before .args .term) (c .before .before .before .before .args .file .now)) (textAt (c .before .before .before .before .args .first) (c .before .before .before .before .args .file .now)) (textAt (c .before .before .before .before .args .second) (c .before .before .before .before .args .file .now)) (c .is-join6 .result) (c .before .enum-told6 .given .1) (c .is-join6 .ensures)
+returns-6 c =
+    let start = c .before .before .before .before in
+    builds-by (start .args .rule) I (textAt (start .args .term) (start .args .file .now))
+    (textAt (start .args .first) (start .args .file .now)) (textAt (start .args .second) (start .args .file .now)) (c .is-join6 .result)
+    (c .before .enum-told6 .given .1) (c .is-join6 .ensures)
 
 returns-7 : tie.Need-returns-7
-returns-7 c = builds-by (c .before .before .before .before .args .rule) B (textAt (c .before .before .before .before .args .term) (c .before .before .before .before .args .file .now)) (textAt (c .before .before .before .before .args .first) (c .before .before .before .before .args .file .now)) (textAt (c .before .before .before .before .args .second) (c .before .before .before .before .args .file .now)) (c .is-join7 .result) (c .before .enum-told7 .given .1) (c .is-join7 .ensures)
+returns-7 c =
+    let start = c .before .before .before .before in
+    builds-by (start .args .rule) B (textAt (start .args .term) (start .args .file .now))
+    (textAt (start .args .first) (start .args .file .now)) (textAt (start .args .second) (start .args .file .now)) (c .is-join7 .result)
+    (c .before .enum-told7 .given .1) (c .is-join7 .ensures)
 
 returns-8 : tie.Need-returns-8
-returns-8 c = builds-by (c .before .before .before .before .args .rule) S (textAt (c .before .before .before .before .args .term) (c .before .before .before .before .args .file .now)) (textAt (c .before .before .before .before .args .first) (c .before .before .before .before .args .file .now)) (textAt (c .before .before .before .before .args .second) (c .before .before .before .before .args .file .now)) (c .is-join8 .result) (c .before .enum-told8 .given .1) (c .is-join8 .ensures)
+returns-8 c =
+    let start = c .before .before .before .before in
+    builds-by (start .args .rule) S (textAt (start .args .term) (start .args .file .now))
+    (textAt (start .args .first) (start .args .file .now)) (textAt (start .args .second) (start .args .file .now)) (c .is-join8 .result)
+    (c .before .enum-told8 .given .1) (c .is-join8 .ensures)
 
 returns-9 : tie.Need-returns-9
-returns-9 c = builds-by (c .before .before .before .args .rule) Unknown (textAt (c .before .before .before .args .term) (c .before .before .before .args .file .now)) (textAt (c .before .before .before .args .first) (c .before .before .before .args .file .now)) (textAt (c .before .before .before .args .second) (c .before .before .before .args .file .now)) false (c .enum-told9 .given .1) refl
+returns-9 c =
+    let start = c .before .before .before in
+    builds-by (start .args .rule) Unknown (textAt (start .args .term) (start .args .file .now))
+    (textAt (start .args .first) (start .args .file .now)) (textAt (start .args .second) (start .args .file .now)) false
+    (c .enum-told9 .given .1) refl
 
 pub builds-spec : {M : Type 1} → statement M
 builds-spec =

@@ -11,25 +11,45 @@ returns-2 : tie.Need-returns-2
 returns-2 c = named Name.R (c .before .before .args .b) (c .if2 .taken)
 
 returns-3 : tie.Need-returns-3
-returns-3 c = named Name.H (c .before .before .before .args .b) (c .if3 .taken)
+returns-3 c =
+    let start = c .before .before .before in
+    named Name.H (start .args .b) (c .if3 .taken)
 
 returns-4 : tie.Need-returns-4
-returns-4 c = named Name.A (c .before .before .before .before .args .b) (c .if4 .taken)
+returns-4 c =
+    let start = c .before .before .before .before in
+    named Name.A (start .args .b) (c .if4 .taken)
 
 returns-5 : tie.Need-returns-5
-returns-5 c = named Name.f (c .before .before .before .before .before .args .b) (c .if5 .taken)
+returns-5 c =
+    let start = c .before .before .before .before .before in
+    named Name.f (start .args .b) (c .if5 .taken)
 
 returns-6 : tie.Need-returns-6
-returns-6 c = named Name.I (c .before .before .before .before .before .before .args .b) (c .if6 .taken)
+returns-6 c =
+    let start = c .before .before .before .before .before .before in
+    named Name.I (start .args .b) (c .if6 .taken)
 
 returns-7 : tie.Need-returns-7
-returns-7 c = named Name.B (c .before .before .before .before .before .before .before .args .b) (c .if7 .taken)
+returns-7 c =
+    let start = c .before .before .before .before .before .before .before in
+    named Name.B (start .args .b) (c .if7 .taken)
 
 returns-8 : tie.Need-returns-8
-returns-8 c = named Name.s (c .before .before .before .before .before .before .before .before .args .b) (c .if8 .taken)
+returns-8 c =
+    let start = c .before .before .before .before .before .before .before .before in
+    named Name.s (start .args .b) (c .if8 .taken)
 
 returns-9 : tie.Need-returns-9
-returns-9 c = unnamed (c .before .before .before .before .before .before .before .before .args .b) (other (c .before .before .before .before .before .before .before .before .args .b) (c .before .before .before .before .before .before .before .if1 .left) (c .before .before .before .before .before .before .if2 .left) (c .before .before .before .before .before .if3 .left) (c .before .before .before .before .if4 .left) (c .before .before .before .if5 .left) (c .before .before .if6 .left) (c .before .if7 .left) (c .if8 .left))
+returns-9 c =
+    let at-if5 = c .before .before .before in
+    let at-if4 = at-if5 .before in
+    let at-if3 = at-if4 .before in
+    let at-if2 = at-if3 .before in
+    let at-if1 = at-if2 .before in
+    let start = at-if1 .before in
+    unnamed (start .args .b)
+    (other (start .args .b) (at-if1 .if1 .left) (at-if2 .if2 .left) (at-if3 .if3 .left) (at-if4 .if4 .left) (at-if5 .if5 .left) (c .before .before .if6 .left) (c .before .if7 .left) (c .if8 .left))
 
 pub rule-named-spec : {M : Type 1} → statement M
 rule-named-spec =

@@ -19,7 +19,10 @@ rule-named-requires : tie.Need-rule-named-requires
 rule-named-requires c κs = search needs
 
 returns : tie.Need-returns
-returns c = c .rule-named .ensures ∙ field-one (c .before .before .before .bytes-of .result .now) (c .before .before .if1 .taken) ∙ ap (λ (s : List ℕ). ruleOf (nameOf s)) (c .before .before .before .bytes-of .ensures)
+returns c =
+    let at-bytes-of = c .before .before .before in
+    c .rule-named .ensures ∙ field-one (at-bytes-of .bytes-of .result .now) (c .before .before .if1 .taken) ∙ ap
+    (λ (s : List ℕ). ruleOf (nameOf s)) (at-bytes-of .bytes-of .ensures)
 
 returns-2 : tie.Need-returns-2
 returns-2 c = field-other (c .before .bytes-of .result .now) (c .if1 .left) ∙ ap (λ (s : List ℕ). ruleOf (nameOf s)) (c .before .bytes-of .ensures)

@@ -21,8 +21,13 @@ is-instance-requires c κs = search needs
 
 returns : tie.Need-returns
 returns c =
-    instance-named (c .before .before .before .before .before .before .args .file .now) (c .before .before .before .before .before .before .args .rule) (c .before .before .before .before .before .before .args .own) (c .before .before .before .judged-at .result) (c .before .judged-at2 .result) (c .before .before .before .before .before .before .args .first) (c .before .before .before .before .before .before .args .second)
-    (c .before .before .before .before .start-or .result) (c .before .before .start-or2 .result) (c .is-instance .result) (c .before .before .before .before .start-or .ensures) (c .before .before .before .judged-at .ensures) (c .before .before .start-or2 .ensures) (c .before .judged-at2 .ensures)
+    let at-judged-at = c .before .before .before in
+    let at-start-or = at-judged-at .before in
+    let start = at-start-or .before .before in
+    instance-named (start .args .file .now) (start .args .rule) (start .args .own) (at-judged-at .judged-at .result)
+    (c .before .judged-at2 .result) (start .args .first) (start .args .second)
+    (at-start-or .start-or .result) (c .before .before .start-or2 .result) (c .is-instance .result) (at-start-or .start-or .ensures)
+    (at-judged-at .judged-at .ensures) (c .before .before .start-or2 .ensures) (c .before .judged-at2 .ensures)
     (c .is-instance .ensures)
 
 pub follows-spec : {M : Type 1} → statement M

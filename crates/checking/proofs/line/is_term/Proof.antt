@@ -16,7 +16,9 @@ number-requires c κs = search needs
 
 returns : tie.Need-returns
 returns c =
-    ap (λ (n : ℕ). eqb n 0) (c .number .ensures ∙ ap (λ (r : Reply ℕ). numberIn r) (c .before .read .ensures)) ∙ reading-term (c .before .before .before .args .s .now)
+    let start = c .before .before .before in
+    ap (λ (n : ℕ). eqb n 0) (c .number .ensures ∙ ap (λ (r : Reply ℕ). numberIn r) (c .before .read .ensures)) ∙ reading-term
+    (start .args .s .now)
 
 pub is-term-spec : {M : Type 1} → statement M
 is-term-spec = tie.close (tie.spec read-requires number-requires returns)

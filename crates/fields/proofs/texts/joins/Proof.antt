@@ -12,13 +12,18 @@ add-if1 : tie.Need-add-if1
 add-if1 c = search needs
 
 returns : tie.Need-returns
-returns c = join-length (c .before .before .before .before .args .w .now) (c .before .before .before .before .args .head) (c .before .before .before .before .args .a .now) (c .before .before .before .before .args .b .now) (c .if1 .taken)
+returns c =
+    let start = c .before .before .before .before in
+    join-length (start .args .w .now) (start .args .head) (start .args .a .now) (start .args .b .now) (c .if1 .taken)
 
 byte-at-requires : tie.Need-byte-at-requires
 byte-at-requires c κs = search needs
 
 returns-2 : tie.Need-returns-2
-returns-2 c = join-head (c .before .before .before .before .before .before .args .w .now) (c .before .before .before .before .before .before .args .head) (c .before .before .before .before .before .before .args .a .now) (c .before .before .before .before .before .before .args .b .now) (λ e. c .if2 .taken (c .before .byte-at .ensures ∙ e))
+returns-2 c =
+    let start = c .before .before .before .before .before .before in
+    join-head (start .args .w .now) (start .args .head) (start .args .a .now) (start .args .b .now)
+    (λ e. c .if2 .taken (c .before .byte-at .ensures ∙ e))
 
 same-part-requires : tie.Need-same-part-requires
 same-part-requires c κs = search needs
@@ -27,10 +32,20 @@ same-part-requires-2 : tie.Need-same-part-requires-2
 same-part-requires-2 c κs = search needs
 
 returns-3 : tie.Need-returns-3
-returns-3 c = c .same-part2 .ensures ∙ join-right (c .before .before .before .before .before .before .before .before .before .args .w .now) (c .before .before .before .before .before .before .before .before .before .args .head) (c .before .before .before .before .before .before .before .before .before .args .a .now) (c .before .before .before .before .before .before .before .before .before .args .b .now) (c .before .before .before .before .before .if1 .left) (sym (c .before .before .before .before .byte-at .ensures) ∙ c .before .before .before .if2 .left) (sym (c .before .before .same-part .ensures) ∙ c .before .if3 .taken)
+returns-3 c =
+    let at-if2 = c .before .before .before in
+    let at-byte-at = at-if2 .before in
+    let at-if1 = at-byte-at .before in
+    let start = at-if1 .before .before .before .before in
+    c .same-part2 .ensures ∙ join-right (start .args .w .now) (start .args .head) (start .args .a .now) (start .args .b .now)
+    (at-if1 .if1 .left) (sym (at-byte-at .byte-at .ensures) ∙ at-if2 .if2 .left)
+    (sym (c .before .before .same-part .ensures) ∙ c .before .if3 .taken)
 
 returns-4 : tie.Need-returns-4
-returns-4 c = join-left (c .before .before .before .before .before .before .before .before .args .w .now) (c .before .before .before .before .before .before .before .before .args .head) (c .before .before .before .before .before .before .before .before .args .a .now) (c .before .before .before .before .before .before .before .before .args .b .now) (sym (c .before .same-part .ensures) ∙ c .if3 .left)
+returns-4 c =
+    let start = c .before .before .before .before .before .before .before .before in
+    join-left (start .args .w .now) (start .args .head) (start .args .a .now) (start .args .b .now)
+    (sym (c .before .same-part .ensures) ∙ c .if3 .left)
 
 pub joins-spec : {M : Type 1} → statement M
 joins-spec =
