@@ -6,15 +6,15 @@ use crate::terms::repeated;
 pub struct Row {
     pub name: &'static str,
     pub files: [Vec<u8>; 2],
-    pub answer: &'static str,
+    pub reply: &'static str,
 }
 
-fn row(name: &'static str, first: &[&str], second: &[&str], answer: &'static str) -> Row {
-    Row { name, files: [file(first), file(second)], answer }
+fn row(name: &'static str, first: &[&str], second: &[&str], reply: &'static str) -> Row {
+    Row { name, files: [file(first), file(second)], reply }
 }
 
-fn raw(name: &'static str, first: &[u8], second: &[u8], answer: &'static str) -> Row {
-    Row { name, files: [first.to_vec(), second.to_vec()], answer }
+fn raw(name: &'static str, first: &[u8], second: &[u8], reply: &'static str) -> Row {
+    Row { name, files: [first.to_vec(), second.to_vec()], reply }
 }
 
 const J: &str = "*a1 J a J - -";
