@@ -222,12 +222,16 @@ fn many_lines(subject: &dyn Controller) -> Outcome {
     Ok(())
 }
 
-/// Files whose replies are known: by hand, or because they are made from a derivation.
+/// Files whose replies are written by hand.
 pub fn known(suite: &mut Suite, label: &str, subject: impl Controller) {
     for row in rows() {
         let name = format!("{label} checking: {}", row.name);
         suite.test(&name, || demand_check(&subject, &row.file, from_words(&row.reply, 0)));
     }
+}
+
+/// Files whose replies follow from how they are made: out of a derivation, or of many lines.
+pub fn made(suite: &mut Suite, label: &str, subject: impl Controller) {
     let mut test = |name: &str, body: &dyn Fn(&dyn Controller) -> Outcome| {
         suite.test(&format!("{label} checking: {name}"), || body(&subject));
     };

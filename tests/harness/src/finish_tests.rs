@@ -177,13 +177,20 @@ pub fn known(suite: &mut Suite, label: &str, subject: impl Controller) {
     for row in examples() {
         suite.test(&format!("{label} finishing, example: {}", row.name), || by_hand(&subject, &row));
     }
-    for row in rows().into_iter().chain(long_rows()) {
+    for row in rows() {
         suite.test(&format!("{label} finishing: {}", row.name), || by_hand(&subject, &row));
     }
-    suite.test(&format!("{label} finishing: spent runs taken up again"), || taken_up_by_hand(&subject));
     for row in refused_rows() {
         suite.test(&format!("{label} finishing refuses: {}", row.name), || refused_by_hand(&subject, &row));
     }
+}
+
+/// Runs of many steps whose end follows from how the term is made.
+pub fn made(suite: &mut Suite, label: &str, subject: impl Controller) {
+    for row in long_rows() {
+        suite.test(&format!("{label} finishing: {}", row.name), || by_hand(&subject, &row));
+    }
+    suite.test(&format!("{label} finishing: spent runs taken up again"), || taken_up_by_hand(&subject));
 }
 
 /// Calls whose replies the plain reducer predicts.

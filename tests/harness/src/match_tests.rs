@@ -65,12 +65,16 @@ fn damaged_files(subject: &dyn Controller) -> Outcome {
     Ok(())
 }
 
-/// Files whose replies are known: by hand, or because both hold one claim.
+/// Files whose replies are written by hand.
 pub fn known(suite: &mut Suite, label: &str, subject: impl Controller) {
     for row in rows() {
         let name = format!("{label} matching: {}", row.name);
         suite.test(&name, || demand_match(&subject, [&row.files[0], &row.files[1]], from_words(row.reply, 0)));
     }
+}
+
+/// Files that match because of how they are made.
+pub fn made(suite: &mut Suite, label: &str, subject: impl Controller) {
     suite.test(&format!("{label} matching: claims before and after a step"), || stepped(&subject));
 }
 

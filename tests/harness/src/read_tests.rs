@@ -6,7 +6,7 @@ use crate::random::Random;
 use crate::reply::from_words;
 use crate::subject::{Controller, Second};
 use crate::suite::{Outcome, Suite};
-use crate::table::reading::{long_rows, rows};
+use crate::table::reading::{long_rows, rows, Row};
 use crate::terms::random_of_size;
 use second::plain::Plain;
 
@@ -53,12 +53,21 @@ fn random_slices(subject: &dyn Controller) -> Outcome {
     Ok(())
 }
 
-/// Slices whose replies are written by hand.
-pub fn known(suite: &mut Suite, label: &str, subject: impl Controller) {
-    for row in rows().into_iter().chain(long_rows()) {
+fn by_hand(suite: &mut Suite, label: &str, subject: impl Controller, rows: Vec<Row>) {
+    for row in rows {
         let name = format!("{label} reading: {}", row.name);
         suite.test(&name, || demand_read(&subject, &row.slice, from_words(&row.reply, 0)));
     }
+}
+
+/// Slices whose replies are written by hand.
+pub fn known(suite: &mut Suite, label: &str, subject: impl Controller) {
+    by_hand(suite, label, subject, rows());
+}
+
+/// The same, of millions of bytes.
+pub fn made(suite: &mut Suite, label: &str, subject: impl Controller) {
+    by_hand(suite, label, subject, long_rows());
 }
 
 /// Slices whose replies the second reader predicts.

@@ -126,21 +126,31 @@ fn types_are_kept() -> Outcome {
     equal("more than 1,000 steps were made", steps > 1_000, true)
 }
 
-/// Everything whose reply is known without the second implementation.
+/// Everything whose reply is known without the second implementation: first what is quick.
 fn known(suite: &mut Suite) {
     let (plain, fast) = (Second::<Plain>::new(), Second::<Machine>::new());
-    step_tests::known(suite, "plain", plain);
-    finish_tests::known(suite, "plain", plain);
-    check_tests::known(suite, "second", plain);
     read_tests::known(suite, "second", plain);
+    step_tests::known(suite, "plain", plain);
+    step_tests::known(suite, "fast", fast);
+    finish_tests::known(suite, "plain", plain);
+    finish_tests::known(suite, "fast", fast);
     compare_tests::known(suite, "plain", plain);
+    compare_tests::known(suite, "fast", fast);
+    check_tests::known(suite, "second", plain);
     match_tests::known(suite, "second", plain);
     program_tests::known_finishing(suite, "second", plain);
     program_tests::known_checking(suite, "second", plain);
     huge::all(suite, "second", plain);
-    step_tests::known(suite, "fast", fast);
-    finish_tests::known(suite, "fast", fast);
-    compare_tests::known(suite, "fast", fast);
+}
+
+/// Replies that follow from how the input is made.
+fn made(suite: &mut Suite) {
+    let (plain, fast) = (Second::<Plain>::new(), Second::<Machine>::new());
+    read_tests::made(suite, "second", plain);
+    check_tests::made(suite, "second", plain);
+    match_tests::made(suite, "second", plain);
+    finish_tests::made(suite, "plain", plain);
+    finish_tests::made(suite, "fast", fast);
 }
 
 /// The fast reducer against the plain one.
@@ -156,6 +166,7 @@ fn two_reducers(suite: &mut Suite) {
 
 pub fn all(suite: &mut Suite) {
     known(suite);
+    made(suite);
     two_reducers(suite);
     suite.test("self: the numbers of terms of each size", numbers_of_terms);
     suite.test("self: the runs of the terms of size 3", runs_of_size_3);

@@ -78,7 +78,7 @@ static BUGS: [Bug; 19] = [
         if code(reply) == STEPPED && value(reply) == 11 { reply - 3 * ONE } else { reply }
     }),
     replies("a step without room is normal", |reply| exchanged(reply, STEP_NO_ROOM, NORMAL)),
-    replies("a count one too large", |reply| moved(reply, &[FINISHED], ONE)),
+    replies("the count of a finished run one too large", |reply| moved(reply, &[FINISHED], ONE)),
     replies("counts of 16 bits", |reply| {
         if [FINISHED, SPENT].contains(&code(reply)) { reply & !0xff00_0000 } else { reply }
     }),

@@ -10,27 +10,39 @@ use harness::suite::Suite;
 use harness::wrong::{bugs, Wrong};
 use harness::{check_tests, compare_tests, deep, finish_tests, huge, match_tests, read_tests, step_tests, threads};
 
-/// What is known by hand comes first: it is quick, and a planted bug is mostly seen there.
-fn tests(subject: impl Controller + Sync + Copy + 'static) -> i32 {
+/// What was written by hand: quick, and enough to see most of the bugs that are planted.
+fn known(suite: &mut Suite, subject: impl Controller + Copy) {
+    read_tests::known(suite, "engine", subject);
+    step_tests::known(suite, "engine", subject);
+    finish_tests::known(suite, "engine", subject);
+    compare_tests::known(suite, "engine", subject);
+    check_tests::known(suite, "engine", subject);
+    match_tests::known(suite, "engine", subject);
+    read_tests::made(suite, "engine", subject);
+    check_tests::made(suite, "engine", subject);
+    match_tests::made(suite, "engine", subject);
+    finish_tests::made(suite, "engine", subject);
+}
+
+/// What the second implementation predicts.
+fn predicted(suite: &mut Suite, subject: impl Controller + Copy) {
+    read_tests::predicted(suite, "engine", subject);
+    step_tests::predicted(suite, "engine", subject);
+    finish_tests::predicted(suite, "engine", subject);
+    finish_tests::long(suite, "engine", subject, finish_tests::MILLION_STEPS);
+    compare_tests::predicted(suite, "engine", subject);
+    check_tests::predicted(suite, "engine", subject);
+    match_tests::predicted(suite, "engine", subject);
+}
+
+fn tests(subject: impl Controller + Sync + Copy) -> i32 {
     let mut suite = Suite::new();
-    let (suite_, label) = (&mut suite, "engine");
-    read_tests::known(suite_, label, subject);
-    step_tests::known(suite_, label, subject);
-    finish_tests::known(suite_, label, subject);
-    compare_tests::known(suite_, label, subject);
-    check_tests::known(suite_, label, subject);
-    match_tests::known(suite_, label, subject);
-    read_tests::predicted(suite_, label, subject);
-    step_tests::predicted(suite_, label, subject);
-    finish_tests::predicted(suite_, label, subject);
-    finish_tests::long(suite_, label, subject, finish_tests::MILLION_STEPS);
-    compare_tests::predicted(suite_, label, subject);
-    check_tests::predicted(suite_, label, subject);
-    match_tests::predicted(suite_, label, subject);
-    deep::all(suite_, label, subject);
-    huge::all(suite_, label, subject);
-    huge::far(suite_, label, subject);
-    threads::all(suite_, label, subject);
+    known(&mut suite, subject);
+    predicted(&mut suite, subject);
+    deep::all(&mut suite, "engine", subject);
+    huge::all(&mut suite, "engine", subject);
+    huge::far(&mut suite, "engine", subject);
+    threads::all(&mut suite, "engine", subject);
     suite.end()
 }
 

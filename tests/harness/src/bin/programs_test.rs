@@ -24,6 +24,7 @@ fn tests() -> i32 {
             other => panic!("no program is called {other}"),
         }
         slowly(&mut suite, "engine", &name, folder.clone());
+        failing(&mut suite, "engine", &name, folder.clone());
     }
     suite.end()
 }
