@@ -22,7 +22,7 @@ pub fn within_limits(file: &[u8]) -> bool {
     file.len() <= 65_536 && lines_of(file) <= 1_024
 }
 
-fn lines_of(file: &[u8]) -> usize {
+pub fn lines_of(file: &[u8]) -> usize {
     file.iter().filter(|&&byte| byte == b'\n').count()
 }
 
