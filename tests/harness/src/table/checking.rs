@@ -45,7 +45,7 @@ pub fn rows() -> Vec<Row> {
     groups.into_iter().flatten().collect()
 }
 
-/// Examples 11 and 12 of document 01.
+/// Examples 11 and 12 (REQUIREMENTS, Examples).
 pub fn examples() -> Vec<Row> {
     vec![row(&[J, I, "1 AIJ >aa A 2 1"], "accepted 3"), row(&[J, I, "1 AIJ >aa A 1 2"], "18@3")]
 }
