@@ -50,7 +50,10 @@ fn words(x: f64, y: f64, style: &str, words: &str) -> String {
 }
 
 fn line(from: [f64; 2], to: [f64; 2], style: &str) -> String {
-    format!("<line x1=\"{:.1}\" y1=\"{:.1}\" x2=\"{:.1}\" y2=\"{:.1}\" {style}/>\n", from[0], from[1], to[0], to[1])
+    format!(
+        "<line x1=\"{:.1}\" y1=\"{:.1}\" x2=\"{:.1}\" y2=\"{:.1}\" {style}/>\n",
+        from[0], from[1], to[0], to[1]
+    )
 }
 
 fn path(points: &[(f64, f64)], style: &str) -> String {
@@ -67,7 +70,11 @@ fn in_units(time: f64) -> String {
 }
 
 fn with_commas(letters: usize) -> String {
-    if letters < 1_000 { letters.to_string() } else { format!("{},{:03}", letters / 1_000, letters % 1_000) }
+    if letters < 1_000 {
+        letters.to_string()
+    } else {
+        format!("{},{:03}", letters / 1_000, letters % 1_000)
+    }
 }
 
 /// The grid with what stands at its lines.
@@ -85,7 +92,13 @@ fn axes() -> String {
         drawn += &words(at, BOTTOM + 22.0, &format!("{label} text-anchor=\"middle\""), &with_commas(letters));
     }
     drawn += &line([LEFT, BOTTOM], [RIGHT, BOTTOM], &format!("stroke=\"{FAINT}\""));
-    drawn + &words((LEFT + RIGHT) / 2.0, BOTTOM + 48.0, &format!("{label} text-anchor=\"middle\""), "letters of the term")
+    drawn
+        + &words(
+            (LEFT + RIGHT) / 2.0,
+            BOTTOM + 48.0,
+            &format!("{label} text-anchor=\"middle\""),
+            "letters of the term",
+        )
 }
 
 /// The geometric mean of the six shapes at a size.
@@ -105,7 +118,9 @@ fn thin_lines(nested: &[Timed], series: &Series) -> String {
 
 fn thick_line(nested: &[Timed], series: &Series) -> String {
     let points = SIZES.map(|letters| (x(letters as f64), y(mean(nested, series, letters))));
-    let dot = |(x, y): &(f64, f64)| format!("<circle cx=\"{x:.1}\" cy=\"{y:.1}\" r=\"4\" fill=\"{}\"/>\n", series.colour);
+    let dot = |(x, y): &(f64, f64)| {
+        format!("<circle cx=\"{x:.1}\" cy=\"{y:.1}\" r=\"4\" fill=\"{}\"/>\n", series.colour)
+    };
     path(&points, &format!("stroke=\"{}\" stroke-width=\"3\"", series.colour))
         + &points.iter().map(dot).collect::<String>()
 }
@@ -114,8 +129,11 @@ fn thick_line(nested: &[Timed], series: &Series) -> String {
 fn labels(nested: &[Timed]) -> String {
     const APART: f64 = 62.0;
     let last = SIZES[SIZES.len() - 1];
-    let mut ends: Vec<(f64, f64, &Series)> =
-        SERIES.iter().map(|series| (mean(nested, series, last), series)).map(|(time, series)| (y(time), time, series)).collect();
+    let mut ends: Vec<(f64, f64, &Series)> = SERIES
+        .iter()
+        .map(|series| (mean(nested, series, last), series))
+        .map(|(time, series)| (y(time), time, series))
+        .collect();
     ends.sort_by(|one, two| one.0.total_cmp(&two.0));
     let mut drawn = String::new();
     let mut free = f64::NEG_INFINITY;

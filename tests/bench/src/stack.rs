@@ -46,7 +46,11 @@ fn used_by(mut work: Work) -> usize {
         let (mut thread, mut result) = (0, std::ptr::null_mut());
         assert_eq!(pthread_attr_init(&mut attributes), 0, "attributes");
         assert_eq!(pthread_attr_setstack(&mut attributes, stack.as_mut_ptr(), STACK), 0, "the stack is taken");
-        assert_eq!(pthread_create(&mut thread, &attributes, body, (&raw mut work).cast()), 0, "a thread starts");
+        assert_eq!(
+            pthread_create(&mut thread, &attributes, body, std::ptr::addr_of_mut!(work).cast()),
+            0,
+            "a thread starts"
+        );
         assert_eq!(pthread_join(thread, &mut result), 0, "the thread ends");
     }
     let painted = stack.iter().position(|&byte| byte != PAINT).unwrap_or(STACK);
@@ -82,7 +86,8 @@ fn finishing(mut area: Vec<u8>) -> String {
 fn comparing(mut first: Vec<u8>) -> String {
     let (mut second, mut work) = (first.clone(), vec![0; first.len()]);
     used(move || {
-        let (one, two) = (Lent { length: first.len(), area: &mut first }, Lent { length: second.len(), area: &mut second });
+        let (one, two) =
+            (Lent { length: first.len(), area: &mut first }, Lent { length: second.len(), area: &mut second });
         Linked.compare(one, two, &mut work, 50);
     })
 }
@@ -105,8 +110,7 @@ fn file_row(name: &str, file: Vec<u8>) -> Vec<String> {
 }
 
 pub fn table() -> Table {
-    let mut rows: Vec<Vec<String>> =
-        deep_terms().into_iter().map(|(name, text)| term_row(name, text)).collect();
+    let mut rows: Vec<Vec<String>> = deep_terms().into_iter().map(|(name, text)| term_row(name, text)).collect();
     rows.push(file_row("file: terms that double", doubling(14)));
     rows.push(file_row("file: short lines that cite two long ones", dear()));
     Table::new(

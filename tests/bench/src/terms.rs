@@ -53,8 +53,11 @@ pub fn programs() -> Vec<Case> {
     ]
 }
 
-/// Terms nested to the left or to the right: (name, text of so many letters and one more).
-pub const NESTED: [(&str, fn(usize) -> Vec<u8>); 6] = [
+/// A shape's name, and its text of so many letters and one more.
+type Shape = (&'static str, fn(usize) -> Vec<u8>);
+
+/// Terms nested to the left or to the right.
+pub const NESTED: [Shape; 6] = [
     ("left, .^k I^(k+1)", |letters| joined(&[&repeated(".", letters / 2), &repeated("I", letters / 2 + 1)])),
     ("left, .^k J^(k+1)", |letters| joined(&[&repeated(".", letters / 2), &repeated("J", letters / 2 + 1)])),
     ("right, (.I)^k J", |letters| joined(&[&repeated(".I", letters / 2), b"J"])),

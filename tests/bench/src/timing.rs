@@ -7,7 +7,8 @@ const MOST_CALLS: usize = 200;
 const FEWEST_CALLS: usize = 3;
 
 /// How the times are taken, in words.
-pub const METHOD: &str = "Each call is made 3 to 200 times, for a tenth of a second or longer; the shortest time counts.";
+pub const METHOD: &str =
+    "Each call is made 3 to 200 times, for a tenth of a second or longer; the shortest time counts.";
 
 /// Prepares and calls again and again, and answers the time of each call.
 pub fn times<T>(mut prepare: impl FnMut() -> T, mut call: impl FnMut(&mut T)) -> Vec<f64> {

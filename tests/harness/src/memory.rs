@@ -45,8 +45,7 @@ impl Pages {
         file.write_all(piece).map_err(|error| error.to_string())?;
         for place in 0..times {
             let start = unsafe { pages.start.add(place * piece.len()) };
-            let mapped =
-                unsafe { mmap(start, piece.len(), READ_WRITE, PRIVATE | FIXED, file.as_raw_fd(), 0) };
+            let mapped = unsafe { mmap(start, piece.len(), READ_WRITE, PRIVATE | FIXED, file.as_raw_fd(), 0) };
             if mapped != start {
                 return Err(format!("piece {place} cannot be mapped"));
             }

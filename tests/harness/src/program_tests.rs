@@ -162,7 +162,7 @@ fn complains(program: &Path, redirection: &str, input: &[u8]) -> Outcome {
 }
 
 /// Input that cannot be read, and output that cannot be written.
-pub fn failing(suite: &mut Suite, label: &str, program: &str, folder: PathBuf) {
+pub fn failing(suite: &mut Suite, label: &str, program: &str, processes: &Processes) {
     let inputs: [&[u8]; 2] = match program {
         "finish" => [b"6\t12\t.BII.JRJ\n", b"x"],
         _ => [b"1\tI\t1\tI\t-\t-\n", b"x"],
@@ -175,7 +175,7 @@ pub fn failing(suite: &mut Suite, label: &str, program: &str, folder: PathBuf) {
     ];
     for (name, redirection) in streams {
         suite.test(&format!("{label} {program} program: {name}"), || {
-            inputs.iter().try_for_each(|input| complains(&folder.join(program), redirection, input))
+            inputs.iter().try_for_each(|input| complains(&processes.folder.join(program), redirection, input))
         });
     }
 }
@@ -184,8 +184,7 @@ pub fn failing(suite: &mut Suite, label: &str, program: &str, folder: PathBuf) {
 const SHORT: usize = 60;
 
 /// The same rows, given to the process byte by byte, so that it is fed many short pieces.
-pub fn slowly(suite: &mut Suite, label: &str, program: &str, folder: PathBuf) {
-    let processes = Processes { folder };
+pub fn slowly(suite: &mut Suite, label: &str, program: &str, processes: &Processes) {
     let rows = if program == "finish" { finish_rows() } else { check_rows() };
     suite.test(&format!("{label} {program} program: input byte by byte"), || {
         for row in rows.iter().filter(|row| row.input.len() <= SHORT) {

@@ -25,12 +25,20 @@ const fn leaves(name: &'static str, bytes: fn(u64, &mut [u8], &mut [u8])) -> Bug
 
 /// One code in the place of another.
 fn exchanged(reply: u64, from: u64, to: u64) -> u64 {
-    if code(reply) == from { reply - from + to } else { reply }
+    if code(reply) == from {
+        reply - from + to
+    } else {
+        reply
+    }
 }
 
 /// A term area's answer with more, or with less where `by` wraps, in its value or its size.
 fn moved(reply: u64, codes: &[u64], by: u64) -> u64 {
-    if codes.contains(&code(reply)) { reply.wrapping_add(by) } else { reply }
+    if codes.contains(&code(reply)) {
+        reply.wrapping_add(by)
+    } else {
+        reply
+    }
 }
 
 const ONE: u64 = 1 << 8;
@@ -41,7 +49,11 @@ fn kept_from_before(reply: u64) -> u64 {
     static CALLS: AtomicU64 = AtomicU64::new(0);
     static BEFORE: AtomicU64 = AtomicU64::new(0);
     let before = BEFORE.swap(reply, Ordering::Relaxed);
-    if CALLS.fetch_add(1, Ordering::Relaxed) % 1_000 == 999 { before } else { reply }
+    if CALLS.fetch_add(1, Ordering::Relaxed) % 1_000 == 999 {
+        before
+    } else {
+        reply
+    }
 }
 
 fn last_byte_left(reply: u64, area: &mut [u8], _: &mut [u8]) {
@@ -75,12 +87,20 @@ static BUGS: [Bug; 19] = [
     replies("a size read of 24 bits", |reply| if code(reply) == WHOLE { reply & 0xffff_ffff } else { reply }),
     replies("17 for 18", |reply| exchanged(reply, 17, 18)),
     replies("rule 11 as rule 8", |reply| {
-        if code(reply) == STEPPED && value(reply) == 11 { reply - 3 * ONE } else { reply }
+        if code(reply) == STEPPED && value(reply) == 11 {
+            reply - 3 * ONE
+        } else {
+            reply
+        }
     }),
     replies("a step without room is normal", |reply| exchanged(reply, STEP_NO_ROOM, NORMAL)),
     replies("the count of a finished run one too large", |reply| moved(reply, &[FINISHED], ONE)),
     replies("counts of 16 bits", |reply| {
-        if [FINISHED, SPENT].contains(&code(reply)) { reply & !0xff00_0000 } else { reply }
+        if [FINISHED, SPENT].contains(&code(reply)) {
+            reply & !0xff00_0000
+        } else {
+            reply
+        }
     }),
     replies("a size one too small", |reply| moved(reply, &[SPENT], ONE_LETTER.wrapping_neg())),
     replies("spent is finished", |reply| exchanged(reply, SPENT, FINISHED)),

@@ -8,7 +8,9 @@ use engine::Linked;
 use harness::subject::Controller;
 use harness::suite::Suite;
 use harness::wrong::{bugs, Wrong};
-use harness::{check_tests, compare_tests, deep, finish_tests, huge, match_tests, read_tests, step_tests, threads};
+use harness::{
+    check_tests, compare_tests, deep, finish_tests, huge, match_tests, read_tests, step_tests, threads,
+};
 
 /// What was written by hand: quick, and enough to see most of the bugs that are planted.
 fn known(suite: &mut Suite, subject: impl Controller + Copy) {
