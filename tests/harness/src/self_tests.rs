@@ -104,7 +104,7 @@ fn any_order() -> Outcome {
     Ok(())
 }
 
-/// Each term of a typed term's run has the claim's type in the claim's context.
+/// Every step keeps what the claim says: its context and its type.
 fn types_are_kept() -> Outcome {
     let mut random = Random::new(63);
     let layout = Layout { shared: true, second_first: false };

@@ -21,8 +21,8 @@ fn raw(name: &str, file: Vec<u8>, reply: &str) -> Row {
     Row { name: name.to_string(), file, reply: reply.to_string() }
 }
 
-const J: &str = "*a1 J a J - -";
-const I: &str = "1 I 1 I - -";
+pub const J: &str = "*a1 J a J - -";
+pub const I: &str = "1 I 1 I - -";
 
 pub fn rows() -> Vec<Row> {
     let groups = [

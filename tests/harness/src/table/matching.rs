@@ -1,6 +1,6 @@
 //! Matching: two files; `match`, `no match` or `number@line`.
 
-use super::checking::file;
+use super::checking::{file, I, J};
 use crate::terms::repeated;
 
 pub struct Row {
@@ -17,8 +17,6 @@ fn raw(name: &'static str, first: &[u8], second: &[u8], reply: &'static str) -> 
     Row { name, files: [first.to_vec(), second.to_vec()], reply }
 }
 
-const J: &str = "*a1 J a J - -";
-const I: &str = "1 I 1 I - -";
 const OPEN_I: &str = "*a1 I 1 I - -";
 
 pub fn rows() -> Vec<Row> {

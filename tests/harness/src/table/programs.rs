@@ -1,6 +1,6 @@
 //! The two programs: standard input and the one line printed.
 
-use super::checking::file;
+use super::checking::{file, I, J};
 use crate::terms::{index, repeated};
 
 pub struct Row {
@@ -167,8 +167,8 @@ fn whole_area(name: &str, term: Vec<u8>, steps: usize, result: Vec<u8>) -> Row {
 
 /// Every row of the checking program.
 pub fn check_rows() -> Vec<Row> {
-    let example = ["*a1 J a J - -", "1 I 1 I - -", "1 AIJ >aa A 2 1"];
-    let damaged = ["*a1 J a J - -", "1 I 1 I - -", "1 AIJ >aa A 1 2"];
+    let example = [J, I, "1 AIJ >aa A 2 1"];
+    let damaged = [J, I, "1 AIJ >aa A 1 2"];
     let good = || repeated("1\tI\t1\tI\t-\t-\n", 1_024);
     vec![
         named("example 11", file(&example), "accepted\t3"),
