@@ -9,6 +9,7 @@ use harness::check_tests::dear;
 use harness::deep::deep_terms;
 use harness::reply::{value, SPENT};
 use harness::subject::Controller;
+use harness::terms::index;
 use std::time::Instant;
 
 /// The steps of the long run that every benchmark makes, and of the longest that a call can make.
@@ -53,6 +54,14 @@ fn run_row(steps: u64) -> Vec<String> {
     row(&format!("{steps} steps beside a large pair"), text.len(), &[time])
 }
 
+fn read_row() -> Vec<String> {
+    let text = index(9_999_999);
+    let read = |_: &mut ()| {
+        Linked.read(&text);
+    };
+    row("reading ten million letters", text.len(), &times(|| (), read))
+}
+
 fn check_row() -> Vec<String> {
     let file = dear();
     let check = |_: &mut ()| {
@@ -65,6 +74,6 @@ pub fn table(steps: u64) -> Table {
     Table::new(
         "Milliseconds a call, where calls cost most",
         &["call", "bytes", "calls", "shortest", "longest"],
-        vec![step_row(), run_row(steps), check_row()],
+        vec![read_row(), step_row(), run_row(steps), check_row()],
     )
 }

@@ -23,21 +23,19 @@ const fn leaves(name: &'static str, bytes: fn(u64, &mut [u8], &mut [u8])) -> Bug
     Bug { name, reply: |reply| reply, bytes }
 }
 
-/// One code in the place of another.
-fn exchanged(reply: u64, from: u64, to: u64) -> u64 {
-    if code(reply) == from {
-        reply - from + to
-    } else {
-        reply
+/// What becomes of the replies with one of these codes; the others stay.
+fn changed(reply: u64, codes: &[u64], change: fn(u64) -> u64) -> u64 {
+    match codes.contains(&code(reply)) {
+        true => change(reply),
+        false => reply,
     }
 }
 
-/// A term area's answer with more, or with less where `by` wraps, in its value or its size.
-fn moved(reply: u64, codes: &[u64], by: u64) -> u64 {
-    if codes.contains(&code(reply)) {
-        reply.wrapping_add(by)
-    } else {
-        reply
+/// One code in the place of another.
+fn exchanged(reply: u64, from: u64, to: u64) -> u64 {
+    match code(reply) == from {
+        true => reply - from + to,
+        false => reply,
     }
 }
 
@@ -49,10 +47,9 @@ fn kept_from_before(reply: u64) -> u64 {
     static CALLS: AtomicU64 = AtomicU64::new(0);
     static BEFORE: AtomicU64 = AtomicU64::new(0);
     let before = BEFORE.swap(reply, Ordering::Relaxed);
-    if CALLS.fetch_add(1, Ordering::Relaxed) % 1_000 == 999 {
-        before
-    } else {
-        reply
+    match CALLS.fetch_add(1, Ordering::Relaxed) % 1_000 {
+        999 => before,
+        _ => reply,
     }
 }
 
@@ -82,31 +79,22 @@ fn byte_behind_the_area(reply: u64, area: &mut [u8], _: &mut [u8]) {
 }
 
 static BUGS: [Bug; 19] = [
-    replies("the place of a byte that is no letter, one too far", |reply| moved(reply, &[5], ONE)),
-    replies("places of 24 bits", |reply| if is_refusal(reply) { reply & 0xffff_ffff } else { reply }),
-    replies("a size read of 24 bits", |reply| if code(reply) == WHOLE { reply & 0xffff_ffff } else { reply }),
-    replies("17 for 18", |reply| exchanged(reply, 17, 18)),
-    replies("rule 11 as rule 8", |reply| {
-        if code(reply) == STEPPED && value(reply) == 11 {
-            reply - 3 * ONE
-        } else {
-            reply
-        }
+    replies("5 one place too far", |reply| changed(reply, &[5], |reply| reply + ONE)),
+    replies("places of 24 bits", |reply| changed(reply, &[5, 6, 7], |reply| reply & 0xffff_ffff)),
+    replies("a size read of 24 bits", |reply| changed(reply, &[WHOLE], |reply| reply & 0xffff_ffff)),
+    replies("17 answered as 18", |reply| exchanged(reply, 17, 18)),
+    replies("rule 11 answered as rule 8", |reply| match (code(reply), value(reply)) {
+        (STEPPED, 11) => reply - 3 * ONE,
+        _ => reply,
     }),
-    replies("a step without room is normal", |reply| exchanged(reply, STEP_NO_ROOM, NORMAL)),
-    replies("the count of a finished run one too large", |reply| moved(reply, &[FINISHED], ONE)),
-    replies("counts of 16 bits", |reply| {
-        if [FINISHED, SPENT].contains(&code(reply)) {
-            reply & !0xff00_0000
-        } else {
-            reply
-        }
-    }),
-    replies("a size one too small", |reply| moved(reply, &[SPENT], ONE_LETTER.wrapping_neg())),
-    replies("spent is finished", |reply| exchanged(reply, SPENT, FINISHED)),
-    replies("same is different", |reply| exchanged(reply, SAME, DIFFERENT)),
-    replies("undecided is different", |reply| exchanged(reply, UNDECIDED, DIFFERENT)),
-    replies("a line too few accepted", |reply| moved(reply, &[ACCEPTED], ONE.wrapping_neg())),
+    replies("a step without room answered as normal", |reply| exchanged(reply, STEP_NO_ROOM, NORMAL)),
+    replies("one step too many counted", |reply| changed(reply, &[FINISHED], |reply| reply + ONE)),
+    replies("counts of 16 bits", |reply| changed(reply, &[FINISHED, SPENT], |reply| reply & !0xff00_0000)),
+    replies("a size one too small", |reply| changed(reply, &[SPENT], |reply| reply - ONE_LETTER)),
+    replies("spent answered as finished", |reply| exchanged(reply, SPENT, FINISHED)),
+    replies("same answered as different", |reply| exchanged(reply, SAME, DIFFERENT)),
+    replies("undecided answered as different", |reply| exchanged(reply, UNDECIDED, DIFFERENT)),
+    replies("one line too few counted", |reply| changed(reply, &[ACCEPTED], |reply| reply - ONE)),
     replies("every claim matches", |reply| exchanged(reply, NO_MATCH, MATCH)),
     replies("every thousandth reply is that of the call before", kept_from_before),
     leaves("the last byte of the area left", last_byte_left),
