@@ -7,3 +7,4 @@ pub mod Derivations
 pub mod Sizes
 pub mod Runs
 pub mod Results
+pub mod Ranges

@@ -1,2 +1,4 @@
-pub mod Encoding
-pub mod Range
+-- That a C caller decodes what the operations answer.
+pub mod Refusals
+pub mod Decoding
+pub mod InC

@@ -1,3 +1,4 @@
 -- The theorems about matching.
 pub mod Verdict
 pub mod Claims
+pub mod Calls

@@ -1,7 +1,6 @@
 -- The demands hold: each by the cases of a call, which `Calls` of each operation's crate has, and by what holds of every run. Assumes nothing.
 use Prim.Native.Nat.{ℕ, _≤_, _<_}
 use mathlib.Core.Path.{_≡_, refl, sym, _∙_, ap, ap₂, subst, subst₂}
-use mathlib.Core.Bool.{Bool}
 use mathlib.Core.Logic.{_↔_, _⊎_, inl, inr, ⊎-elim}
 use mathlib.Core.List.{List, [], _∷_}
 use lib.ListN.{length, take}
@@ -26,16 +25,15 @@ use Rattle.finishing.proofs.Calls as finish
 use Rattle.finishing.proofs.RunOf.{run-of, run-finishes, results-exactly, run-keeps}
 use Rattle.comparing.specs.Comparing as comparing
 use Rattle.comparing.proofs.Calls as compare
-use Rattle.slices.specs.Split.{lines}
 use Rattle.derivation_files.specs.Checking.{checkingOf}
 use Rattle.derivation_files.specs.Checks.{ChecksAs}
 use Rattle.derivation_files.proofs.Listed.{checking-refused}
 use Rattle.derivation_files.proofs.Files.{accepted-exactly, claim-unique, claimed, accepted-derivable}
 use Rattle.derivation_files.proofs.Checks.{checks-as, checks-as-only}
 use Rattle.derivation_files.proofs.LaidOut.{laid-out}
-use Rattle.checking.specs.Claim.{lastLine}
-use Rattle.matching.specs.Matching.{sameClaim, afterBoth, matchingOf}
 use Rattle.matching.proofs.Claims.{match-exactly}
+use Rattle.matching.proofs.Calls.{match-refused}
+use Rattle.controller.proofs.InC.{in-c}
 use Rattle.promises.specs.Demands.{StepRefuses, FinishRefuses, SteppedTo, RanTo, ComparedTo, Demands}
 
 step-refused :
@@ -112,26 +110,6 @@ compare-refused :
 compare-refused (compare.Call.first-refused m) = (inl m, refl, refl, refl)
 compare-refused (compare.Call.second-refused m) = (inr m, refl, refl, refl)
 
--- a refusal of matching is checking's, of the first file or of the second
-match-refused :
-    (first second : List ℕ) (number line : ℕ) →
-    matchingOf first second ≡ Reply.refused number line → (checkingOf first ≡ Reply.refused number line) ⊎ (checkingOf second ≡ Reply.refused number line)
-unfolding matchingOf
-match-refused first second number line = go (checkingOf first) (checkingOf second) (sameClaim (lastLine (lines first)) (lastLine (lines second)))
-  where
-    go :
-        (x y : Reply ℕ) (verdict : Bool) → afterBoth x y verdict ≡ Reply.refused number line →
-        (x ≡ Reply.refused number line) ⊎ (y ≡ Reply.refused number line)
-    go (Reply.refused n l) y verdict e =
-        let same-number : n ≡ number = cc in
-        let same-line : l ≡ line = cc in
-        inl (ap₂ Reply.refused same-number same-line)
-    go (Reply.answered m) (Reply.refused n l) verdict e =
-        let same-number : n ≡ number = cc in
-        let same-line : l ≡ line = cc in
-        inr (ap₂ Reply.refused same-number same-line)
-    go (Reply.answered m) (Reply.answered k) verdict e = let z : _≡_ {A = ℕ} 0 1 = cc in absurd (omega arith)
-
 -- the area of a run that is not refused holds the text of the term reached at its start
 reached-text :
     {area work area′ work′ : List ℕ} {len fuel n s : ℕ} {o : Outcome} (r : RanTo area len work fuel o n s area′ work′) →
@@ -171,6 +149,7 @@ demands =
           λ first second number line e.
           ⊎-elim (λ f. inl (checking-refused first number line f)) (λ f. inr (checking-refused second number line f))
           (match-refused first second number line e);
+      in-c = in-c;
       reads = λ bytes reply. (λ e. subst (ReadsAs bytes) e (reads-as bytes), reads-as-only);
       stepped = λ area work area′ work′ len rule s e. step-stepped (subst (step.Call area len work) e (step.call area len work));
       normal = λ area work area′ work′ len s e. step-normal (subst (step.Call area len work) e (step.call area len work));

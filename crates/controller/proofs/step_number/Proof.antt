@@ -1,107 +1,71 @@
--- `controller::step_number` meets its contract: each case of the answer has its number by definition. Assumes nothing.
-use Prim.Native.Nat.{ℕ}
-use mathlib.Core.Path.{_≡_, sym, _∙_, ap}
-use Rattle.reading.specs.Answer.{answerOf as readingAnswer}
-use Rattle.stepping.specs.Answer.{answerOf}
-use Rattle.stepping.specs.declared.Stepping.{Stepping}
-use Rattle.controller.specs.Encoding.{packed, stepFields}
-use Rattle.controller.proofs.Encoding.{step-refusal}
+-- `controller::step_number` meets its contract: an answer has its number by definition, every other case is a refusal. Assumes nothing.
+use Rattle.controller.specs.Encoding.{stepNumber}
+use Rattle.controller.proofs.Refusals.{stepping-refusal}
 use borrow.Author.Needs.{needs}
 use Rattle.controller.proofs.step_number.Statement.{statement}
 use Rattle.controller.proofs.step_number.Tie as tie
 
-abbrev number : Stepping → ℕ
-number answer = packed (stepFields (answerOf answer))
-
-enum-told : tie.Need-enum-told
-enum-told c = search needs
-
-pack-requires : tie.Need-pack-requires
-pack-requires c κs = search needs
-
-enum-told-2 : tie.Need-enum-told-2
-enum-told-2 c = search needs
-
-pack-requires-2 : tie.Need-pack-requires-2
-pack-requires-2 c κs = search needs
-
-enum-told-3 : tie.Need-enum-told-3
-enum-told-3 c = search needs
-
-pack-requires-3 : tie.Need-pack-requires-3
-pack-requires-3 c κs = search needs
-
 enum-known-answer : tie.Need-enum-known-answer
 enum-known-answer c = search needs
 
-reading-number-requires : tie.Need-reading-number-requires
-reading-number-requires c κs = search needs
+narrow-requires : tie.Need-narrow-requires
+narrow-requires c κs = search needs
 
 enum-known-answer-2 : tie.Need-enum-known-answer-2
 enum-known-answer-2 c = search needs
 
-pack-requires-4 : tie.Need-pack-requires-4
-pack-requires-4 c κs = search needs
+narrow-requires-2 : tie.Need-narrow-requires-2
+narrow-requires-2 c κs = search needs
 
 enum-known-answer-3 : tie.Need-enum-known-answer-3
 enum-known-answer-3 c = search needs
 
-pack-requires-5 : tie.Need-pack-requires-5
-pack-requires-5 c κs = search needs
+cast-narrow : tie.Need-cast-narrow
+cast-narrow c = search needs
 
-enum-known-answer-4 : tie.Need-enum-known-answer-4
-enum-known-answer-4 c = search needs
+narrow-requires-3 : tie.Need-narrow-requires-3
+narrow-requires-3 c κs = search needs
 
-cast-pack : tie.Need-cast-pack
-cast-pack c = search needs
+number-requires : tie.Need-number-requires
+number-requires c κs = search needs
 
-pack-requires-6 : tie.Need-pack-requires-6
-pack-requires-6 c κs = search needs
+place-requires : tie.Need-place-requires
+place-requires c κs = search needs
+
+wide-requires : tie.Need-wide-requires
+wide-requires c κs = search needs
 
 returns : tie.Need-returns
-returns c = c .pack .ensures ∙ ap number (sym (c .before .enum-told .given .1))
+unfolding stepNumber
+returns c = cc
 
 returns-2 : tie.Need-returns-2
-returns-2 c = c .pack2 .ensures ∙ ap number (sym (c .before .enum-told2 .given .1))
+unfolding stepNumber
+returns-2 c = cc
 
 returns-3 : tie.Need-returns-3
-returns-3 c = c .pack3 .ensures ∙ ap number (sym (c .before .enum-told3 .given .1))
+unfolding stepNumber
+returns-3 c = cc
 
 returns-4 : tie.Need-returns-4
-returns-4 c = c .reading-number .ensures ∙ ap packed (step-refusal (readingAnswer (c .before .before .answer .given .0 .0))) ∙ ap number (sym (c .before .before .answer .given .1))
-
-returns-5 : tie.Need-returns-5
-returns-5 c = c .pack4 .ensures ∙ ap number (sym (c .before .before .answer2 .given .1))
-
-returns-6 : tie.Need-returns-6
-returns-6 c = c .pack5 .ensures ∙ ap number (sym (c .before .before .answer3 .given .1))
-
-returns-7 : tie.Need-returns-7
-returns-7 c = c .pack6 .ensures ∙ ap number (sym (c .before .before .answer4 .given .1))
+unfolding stepNumber
+returns-4 c = cc (stepping-refusal (c .before .before .before .before .args .answer) (c .before .before .before .match .keys4))
 
 pub step-number-spec : {M : Type 1} → statement M
 step-number-spec =
     tie.close
     (tie.spec
-    enum-told
-    pack-requires
-    enum-told-2
-    pack-requires-2
-    enum-told-3
-    pack-requires-3
     enum-known-answer
-    reading-number-requires
+    narrow-requires
     enum-known-answer-2
-    pack-requires-4
+    narrow-requires-2
     enum-known-answer-3
-    pack-requires-5
-    enum-known-answer-4
-    cast-pack
-    pack-requires-6
+    cast-narrow
+    narrow-requires-3
+    number-requires
+    place-requires
+    wide-requires
     returns
     returns-2
     returns-3
-    returns-4
-    returns-5
-    returns-6
-    returns-7)
+    returns-4)
