@@ -12,8 +12,12 @@ use Rattle.comparing.specs.Comparing.{After, bothRan, firstAdmitted, com
 
 -- a call of comparing: refused with the areas as they were, or both runs
 pub data Call (first : List ℕ) (len₁ : ℕ) (second : List ℕ) (len₂ : ℕ) (work : List ℕ) (fuel : ℕ) : After → Type 0 where
-  first-refused : {number place : ℕ} → Refused len₁ number place → Call first len₁ second len₂ work fuel (After.after (Reply.refused number place) first second work)
-  second-refused : {number place : ℕ} → Refused len₂ number place → Call first len₁ second len₂ work fuel (After.after (Reply.refused number place) first second work)
+  first-refused :
+      {number place : ℕ} → Refused len₁ number place →
+      Call first len₁ second len₂ work fuel (After.after (Reply.refused number place) first second work)
+  second-refused :
+      {number place : ℕ} → Refused len₂ number place →
+      Call first len₁ second len₂ work fuel (After.after (Reply.refused number place) first second work)
   made :
       (t u : Term) → Admits first len₁ work fuel t → Admits second len₂ work fuel u →
       Call first len₁ second len₂ work fuel (bothRan t (run fuel (length first) t) u (run fuel (length second) u) first second work)

@@ -50,7 +50,9 @@ module _ (area : List ℕ) (len : ℕ) (work : List ℕ) (fuel : ℕ) where
           read-decides r e = rw (le-ltb _ _ short, le-ltb _ _ room, le-ltb _ _ within, le-ltb _ _ fuelled) e
 
           -- what reading refuses
-          reading-refused : (number place : ℕ) → Reply.refused number place ≡ readingOf (take len area) → Reply.refused number place ≡ admission (admitted area len work fuel)
+          reading-refused :
+              (number place : ℕ) → Reply.refused number place ≡ readingOf (take len area) →
+              Reply.refused number place ≡ admission (admitted area len work fuel)
           unfolding termRead
           reading-refused number place e =
               sym

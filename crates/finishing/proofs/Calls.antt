@@ -23,7 +23,9 @@ pub record Admits (area : List ℕ) (len : ℕ) (work : List ℕ) (fuel : ℕ) (
   pub held : Holds area len t
   pub admits : admitted area len work fuel ≡ Reply.answered t
 
-pub admitted-held : (area : List ℕ) (len : ℕ) (work : List ℕ) (fuel : ℕ) (t : Term) → admitted area len work fuel ≡ Reply.answered t → Admits area len work fuel t
+pub admitted-held :
+    (area : List ℕ) (len : ℕ) (work : List ℕ) (fuel : ℕ) (t : Term) → admitted area len work fuel ≡ Reply.answered t →
+    Admits area len work fuel t
 admitted-held area len work fuel t e =
     let read = termRead (take len area) in
     let (areas, f) = areas-passed area len work (refuseIf (ltb fuelLimit fuel) 4 read) t e in
@@ -38,7 +40,8 @@ admitted-held area len work fuel t e =
 abbrev pub Refused : (len number place : ℕ) → Type 0
 Refused len number place = Refuses (1 ∷ 2 ∷ 3 ∷ 4 ∷ []) (5 ∷ 6 ∷ 7 ∷ []) 0 (min len areaLimit) number place
 
-pub refused-listed : (area : List ℕ) (len : ℕ) (work : List ℕ) (fuel n p : ℕ) → admitted area len work fuel ≡ Reply.refused n p → Refused len n p
+pub refused-listed :
+    (area : List ℕ) (len : ℕ) (work : List ℕ) (fuel n p : ℕ) → admitted area len work fuel ≡ Reply.refused n p → Refused len n p
 refused-listed area len work fuel n p =
     areas-refused area len work (refuseIf (ltb fuelLimit fuel) 4 (termRead (take len area))) (4 ∷ []) (5 ∷ 6 ∷ 7 ∷ []) 0 (min len areaLimit) n p
     (λ short. refused-by (ltb fuelLimit fuel) 4 n p (termRead (take len area)) [] (5 ∷ 6 ∷ 7 ∷ []) 0 (min len areaLimit) (λ fuelled. within-term area len n p short))

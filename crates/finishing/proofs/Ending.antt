@@ -35,7 +35,8 @@ admission-answered (Reply.refused m q) e = let z : _≡_ {A = ℕ} 0 1 = cc in a
 admission-answered (Reply.answered t) e = (t, refl)
 
 -- each case but the last is a refusal
-pub reply-refused : (a : Admission) → OneOf (0 ∷ 1 ∷ 2 ∷ 3 ∷ 4 ∷ []) (tagOf the-type a) → (n : ℕ) × (p : ℕ) × (replyOf a ≡ Reply.refused n p)
+pub reply-refused :
+    (a : Admission) → OneOf (0 ∷ 1 ∷ 2 ∷ 3 ∷ 4 ∷ []) (tagOf the-type a) → (n : ℕ) × (p : ℕ) × (replyOf a ≡ Reply.refused n p)
 reply-refused AreaTooLong k = (1, 0, refl)
 reply-refused WorkTooShort k = (2, 0, refl)
 reply-refused LengthTooLong k = (3, 0, refl)
@@ -58,7 +59,9 @@ reply-admitted Admitted k = refl
 
 module _ (area : List ℕ) (len : ℕ) (work : List ℕ) (fuel : ℕ) (a : Admission) (said : replyOf a ≡ admission (admitted area len work fuel)) where
   -- a call that is refused, and by what
-  pub said-refused : OneOf (0 ∷ 1 ∷ 2 ∷ 3 ∷ 4 ∷ []) (tagOf the-type a) → (n : ℕ) × (p : ℕ) × (replyOf a ≡ Reply.refused n p) × (admitted area len work fuel ≡ Reply.refused n p)
+  pub said-refused :
+      OneOf (0 ∷ 1 ∷ 2 ∷ 3 ∷ 4 ∷ []) (tagOf the-type a) →
+      (n : ℕ) × (p : ℕ) × (replyOf a ≡ Reply.refused n p) × (admitted area len work fuel ≡ Reply.refused n p)
   said-refused k =
       let (n, p, e) = reply-refused a k in
       (n, p, e, admission-refused (admitted area len work fuel) (sym e ∙ said))
@@ -70,7 +73,8 @@ module _ (area : List ℕ) (len : ℕ) (work : List ℕ) (fuel : ℕ) (a : Admis
   -- ---- the ways out of `finish`
 
   -- a refusal
-  pub after-refused : OneOf (0 ∷ 1 ∷ 2 ∷ 3 ∷ 4 ∷ []) (tagOf the-type a) → After.after (replyOf a) noRun area work ≡ finishingOf area len work fuel
+  pub after-refused :
+      OneOf (0 ∷ 1 ∷ 2 ∷ 3 ∷ 4 ∷ []) (tagOf the-type a) → After.after (replyOf a) noRun area work ≡ finishingOf area len work fuel
   unfolding finishingOf
   after-refused k =
       let (n, p, e, f) = said-refused k in

@@ -36,7 +36,8 @@ length-flat (x ∷ xs) = length-append x (flat xs) ∙ ap (λ (n : ℕ). length 
 
 module _ {s : List ℕ} (xs : List (List ℕ)) (e : s ≡ flat xs) where
   -- the part of k pieces behind the first i
-  pub part-flat : (i k from to : ℕ) → from ≡ sizes (take i xs) → to ≡ from + sizes (take k (drop i xs)) → part from to s ≡ flat (take k (drop i xs))
+  pub part-flat :
+      (i k from to : ℕ) → from ≡ sizes (take i xs) → to ≡ from + sizes (take k (drop i xs)) → part from to s ≡ flat (take k (drop i xs))
   part-flat i k from to n m =
       let long : to - from ≡ length (flat (take k (drop i xs))) = omega (arith, length-flat (take k (drop i xs))) in
       let behind : drop from s ≡ flat (drop i xs) =

@@ -101,7 +101,8 @@ module _ (s : List ℕ) (at parts : ℕ) (h : at < length s) (p : parts ≡ arit
   pub end-leaf : (parts ≡ 1 → ⊥) → (parts ≡ 2 → ⊥) → at + 1 ≡ endAt s at
   unfolding arityOf
   end-leaf n m =
-      omega (arith, end-letter s at 0 h (none-taken (letterOf (getD s at 0)) (λ e. n (p ∙ e)) (λ e. m (p ∙ e))), skip-none (drop (at + 1) s))
+      let alone = none-taken (letterOf (getD s at 0)) (λ e. n (p ∙ e)) (λ e. m (p ∙ e)) in
+      omega (arith, end-letter s at 0 h alone, skip-none (drop (at + 1) s))
 
 -- ---- texts
 
@@ -110,7 +111,9 @@ abbrev Sized : Term → Type 0
 Sized t = (k : ℕ) (z : List ℕ) → skip (suc k) (text t ++ z) ≡ size t + skip k z
 
 -- the texts of two terms take the bytes of two
-sized-both : (t u : Term) → Sized t → Sized u → (k : ℕ) (z : List ℕ) → skip (suc (suc k)) ((text t ++ text u) ++ z) ≡ size t + size u + skip k z
+sized-both :
+    (t u : Term) → Sized t → Sized u →
+    (k : ℕ) (z : List ℕ) → skip (suc (suc k)) ((text t ++ text u) ++ z) ≡ size t + size u + skip k z
 sized-both t u first second k z =
     let apart : skip (suc (suc k)) ((text t ++ text u) ++ z) ≡ size t + skip (suc k) (text u ++ z) =
     ap (skip (suc (suc k))) (append-assoc (text t) (text u) z) ∙ first (suc k) (text u ++ z) in

@@ -6,13 +6,15 @@ use mathlib.Core.List.{List, _∷_, List·Memᴰ·head, List·Memᴰ·tail}
 use Rattle.reading.specs.Reply.{Reply, refuseIf, Refuses}
 
 -- a test that did not refuse did not hold
-pub passed : {X : Type 0} (test : Bool) (number : ℕ) (other : Reply X) (x : X) → refuseIf test number other ≡ Reply.answered x → test ≡ false
+pub passed :
+    {X : Type 0} (test : Bool) (number : ℕ) (other : Reply X) (x : X) → refuseIf test number other ≡ Reply.answered x → test ≡ false
 passed true number other x e = cc
 passed false number other x e = refl
 
 -- what it passed on was answered
 pub passed-on :
-    {X : Type 0} (test : Bool) (number : ℕ) (other : Reply X) (x : X) → refuseIf test number other ≡ Reply.answered x → other ≡ Reply.answered x
+    {X :
+    Type 0} (test : Bool) (number : ℕ) (other : Reply X) (x : X) → refuseIf test number other ≡ Reply.answered x → other ≡ Reply.answered x
 passed-on true number other x e = cc
 passed-on false number other x e = e
 

@@ -50,7 +50,9 @@ unfolding arityOf
 no-letter zero at parts s h owes p e = absurd (owes refl)
 no-letter (suc k) at parts s h owes p e = at-byte k at s h ∙ go (letterOf (getD s at 0)) (sym p ∙ e)
   where
-    go : (o : Option Letter) → arityOfLetter o ≡ 3 → atLetter o at (λ l. readingFrom (owed l k) (suc at) (drop (suc at) s)) ≡ Reply.refused 5 at
+    go :
+        (o : Option Letter) → arityOfLetter o ≡ 3 →
+        atLetter o at (λ l. readingFrom (owed l k) (suc at) (drop (suc at) s)) ≡ Reply.refused 5 at
     go none e = refl
     go (some l) e = let f : owed l 0 < 3 = few l in absurd (omega arith)
 

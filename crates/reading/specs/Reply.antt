@@ -1,4 +1,5 @@
--- What an operation answers (REQUIREMENTS, Replies and areas): a refusal is a number and a place or line, which is 0 where the number has none
+-- What an operation answers (REQUIREMENTS, Replies and areas): a refusal is a number and a place or line, which is 0 where the number has
+-- none
 -- of its own.
 use Prim.Native.Nat.{ℕ, _≤_}
 use mathlib.Core.Path.{_≡_}

@@ -32,7 +32,8 @@ in-function {t} {p} spot f a q =
       spelt = spot .spelt ∙ ap (λ (x : Term). spot .front ++ (text (Term.app x arg) ++ spot .back)) q ∙ simp append-assoc;
       steps =
           λ n v e.
-          let outer = spot .steps n (Term.app v arg) (ap (λ (x : Term). next (Term.app x arg)) q ∙ ap (within (λ (x : Term). Term.app x arg)) e) in
+          let inner = ap (λ (x : Term). next (Term.app x arg)) q ∙ ap (within (λ (x : Term). Term.app x arg)) e in
+          let outer = spot .steps n (Term.app v arg) inner in
           record { reduct = outer .reduct; step = outer .step; spelt = outer .spelt ∙ simp append-assoc };
     }
 

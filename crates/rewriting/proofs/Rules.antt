@@ -46,6 +46,7 @@ module _ {s front back : List ℕ} {p : ℕ} where
       Laid s front f a back p → Fires f a front back s (frozen n p (p + 1))
   frozen-fires n {f} {a} e laid =
       let xs = around front f a back in
+      let long = laid-length laid in
       record {
         value = Term.H f a;
         step = e;
@@ -55,7 +56,7 @@ module _ {s front back : List ℕ} {p : ℕ} where
             refl
             refl
             refl
-            (part-flat xs (laid .whole) 2 3 (p + 1) (length s) (omega arith) (omega (arith, laid-length laid, length-text f, length-text a)))
+            (part-flat xs (laid .whole) 2 3 (p + 1) (length s) (omega arith) (omega (arith, long, length-text f, length-text a)))
             ∙ simp (append-assoc, append-nil);
         grows = omega arith;
         exact = λ h. omega arith;
@@ -235,7 +236,8 @@ module _ {x front : List ℕ} {u s : Term} {back : List ℕ} {p mid end : ℕ} w
         step = refl;
         spelt =
             pieced (picked 10 p nothing end) x (front-part on) refl refl refl (argument-part on)
-            ∙ ap₂ _++_ (append-nil front) (append-nil (byte Letter.I ∷ (back ++ [])) ∙ ap (λ (l : List ℕ). byte Letter.I ∷ l) (append-nil back));
+            ∙ ap₂ _++_ (append-nil front)
+            (append-nil (byte Letter.I ∷ (back ++ [])) ∙ ap (λ (l : List ℕ). byte Letter.I ∷ l) (append-nil back));
         grows = omega arith;
         exact = λ h. omega arith;
       }
@@ -251,7 +253,14 @@ module _ {x front : List ℕ} {u s : Term} {back : List ℕ} {p mid end : ℕ} w
         value = Term.app (Term.app (Term.B u s) r) (Term.app (Term.B u s) t);
         step = refl;
         spelt =
-            pieced (spread 8 (p + 1) 0 (between p end) (between (end + 1) third) (between p end)) x (stop-part on) (pair-part on) (inner-part on third e) (pair-part on) (rest-part on third e)
+            pieced
+            (spread 8 (p + 1) 0 (between p end) (between (end + 1) third) (between p end))
+            x
+            (stop-part on)
+            (pair-part on)
+            (inner-part on third e)
+            (pair-part on)
+            (rest-part on third e)
             ∙ simp (append-assoc, append-nil);
         grows = omega arith;
         exact = λ h. omega arith;
@@ -268,7 +277,14 @@ module _ {x front : List ℕ} {u s : Term} {back : List ℕ} {p mid end : ℕ} w
         value = Term.B (Term.app (Term.B u s) r) (Term.app (Term.B u s) t);
         step = refl;
         spelt =
-            pieced (spread 11 p (byte Letter.B) (between p end) (between (end + 1) third) (between p end)) x (front-part on) (pair-part on) (inner-part on third e) (pair-part on) (rest-part on third e)
+            pieced
+            (spread 11 p (byte Letter.B) (between p end) (between (end + 1) third) (between p end))
+            x
+            (front-part on)
+            (pair-part on)
+            (inner-part on third e)
+            (pair-part on)
+            (rest-part on third e)
             ∙ simp (append-assoc, append-nil);
         grows = omega arith;
         exact = λ h. omega arith;

@@ -72,7 +72,9 @@ pub data Answers (area work : List ℕ) (t : Term) : After → Type 0 where
 answers : (area work : List ℕ) (t : Term) → Answers area work t (stepNext t (next t) area work)
 answers area work t = go (next t) refl
   where
-    room : (rule : ℕ) (u : Term) → Step rule t u → (fits : Bool) → leb (size u) (length area) ≡ fits → Answers area work t (stepTo fits t rule u area work)
+    room :
+        (rule : ℕ) (u : Term) → Step rule t u → (fits : Bool) → leb (size u) (length area) ≡ fits →
+        Answers area work t (stepTo fits t rule u area work)
     room rule u s true e = Answers.stepped s (leb-true (size u) (length area) e)
     room rule u s false e = Answers.no-room s (leb-false (size u) (length area) e)
 
@@ -88,7 +90,8 @@ pub data Call (area : List ℕ) (len : ℕ) (work : List ℕ) : After → Type 0
   made : {after : After} (t : Term) → Areas area len work → Holds area len t → Answers area work t after → Call area len work after
 
 -- what reading refuses of the first len bytes is at a place up to len
-pub within-term : (area : List ℕ) (len n p : ℕ) → len ≤ areaLimit → termRead (take len area) ≡ Reply.refused n p → Unread (min len areaLimit) n p
+pub within-term :
+    (area : List ℕ) (len n p : ℕ) → len ≤ areaLimit → termRead (take len area) ≡ Reply.refused n p → Unread (min len areaLimit) n p
 within-term area len n p short e =
     let most : length (take len area) ≤ min len areaLimit = omega (arith, length-take len area) in
     widened (omega arith) most (term-refused (take len area) n p e)

@@ -117,7 +117,8 @@ module _ {area : List ℕ} {len : ℕ} {t : Term} (h : Holds area len t) where
   -- what the rule that applies there makes of it
   pub held-makes : {r : ℕ} (w : Rewrite) → EndsAt area len r → ¬ (r ≡ len) → w ≡ rewriteOf (take len area) r → Makes t w
   held-makes {r} w led n e =
-      subst (Makes t) (sym (e ∙ ap (λ (l : List ℕ). rewriteOf l r) (h .written))) (found-makes (held-found led) (λ q. n (q ∙ sym held-size)))
+      subst (Makes t) (sym (e ∙ ap (λ (l : List ℕ). rewriteOf l r) (h .written)))
+      (found-makes (held-found led) (λ q. n (q ∙ sym held-size)))
 
   module _ (work : List ℕ) where
     -- where nothing comes next

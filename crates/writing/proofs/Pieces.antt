@@ -36,7 +36,8 @@ letter-text (suc b) n = refl
 
 -- the pieces behind one that is written
 module _
-    (at : ℕ) (d : List ℕ) {mid : ℕ} {d₁ : List ℕ} (piece : List ℕ) (pieces : List (List ℕ)) (e : d₁ ≡ put at piece d) (n : mid ≡ behind at piece d)
+    (at : ℕ) (d : List ℕ) {mid : ℕ} {d₁ : List ℕ} (piece : List ℕ) (pieces : List (List ℕ)) (e : d₁ ≡ put at piece d)
+    (n : mid ≡ behind at piece d)
   where
     pub put-next : putAll mid pieces d₁ ≡ putAll at (piece ∷ pieces) d
     put-next = ap₂ (λ (i : ℕ) (l : List ℕ). putAll i pieces l) n e
@@ -46,12 +47,14 @@ module _
 
 -- pieces that all fit are written one behind the other
 wrote-pieces :
-    (pieces : List (List ℕ)) (at : ℕ) (d : List ℕ) → at + sizes pieces ≤ length d → Wrote at (behindAll at pieces d) (flat pieces) d (putAll at pieces d)
+    (pieces : List (List ℕ)) (at : ℕ) (d : List ℕ) → at + sizes pieces ≤ length d →
+    Wrote at (behindAll at pieces d) (flat pieces) d (putAll at pieces d)
 wrote-pieces [] at d h = wrote-none at d (omega arith)
 wrote-pieces (piece ∷ pieces) at d h =
     let first = wrote-put at piece d (omega arith) refl refl in
     wrote-then first (wrote-pieces pieces (behind at piece d) (put at piece d) (omega (arith, first .ends, first .size)))
 
 pub wrote-all :
-    (pieces : List (List ℕ)) (d : List ℕ) → length (flat pieces) ≤ length d → Wrote 0 (behindAll 0 pieces d) (flat pieces) d (putAll 0 pieces d)
+    (pieces : List (List ℕ)) (d : List ℕ) → length (flat pieces) ≤ length d →
+    Wrote 0 (behindAll 0 pieces d) (flat pieces) d (putAll 0 pieces d)
 wrote-all pieces d h = wrote-pieces pieces 0 d (omega (arith, length-flat pieces))

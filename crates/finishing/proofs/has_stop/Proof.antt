@@ -11,7 +11,9 @@ find-requires : tie.Need-find-requires
 find-requires c κs = search needs
 
 returns : tie.Need-returns
-returns c = ap (λ (n : ℕ). ltb n (length (c .before .before .args .s .now))) (c .find .ensures)
+returns c =
+    let start = c .before .before in
+    ap (λ (n : ℕ). ltb n (length (start .args .s .now))) (c .find .ensures)
 
 pub has-stop-spec : {M : Type 1} → statement M
 has-stop-spec = tie.close (tie.spec find-requires returns)

@@ -32,7 +32,9 @@ part-end-returns : (t : ℕ) → part-end-lts.Need-returns (
   part-end-below t,
   part-end.Post,
 ) (part-end-at t) part-end.Post
-part-end-returns t c = end-past (c .before .before .args .s .now) (c .before .before .args .at) (c .if1 .taken)
+part-end-returns t c =
+    let start = c .before .before in
+    end-past (start .args .s .now) (start .args .at) (c .if1 .taken)
 
 -- src/lib.rt:12:35
 part-end-shared-slice-read-arity : (t : ℕ) → part-end-lts.Need-shared-slice-read-arity (
@@ -78,8 +80,12 @@ part-end-returns-2 : (t : ℕ) → part-end-lts.Need-returns-2 (
   part-end.Post,
 ) (part-end-at t) part-end.Post
 part-end-returns-2 t c =
-    let a = c .before .before .before .before .before .before .args in
-    c .part-end .ensures ∙ end-one (a .s .now) (a .at) (c .before .before .arity .result) (c .before .before .before .before .if1 .left) (c .before .before .arity .ensures) (c .before .if2 .taken)
+    let at-arity = c .before .before in
+    let at-if1 = at-arity .before .before in
+    let start = at-if1 .before .before in
+    let a = start .args in
+    c .part-end .ensures ∙ end-one (a .s .now) (a .at) (at-arity .arity .result) (at-if1 .if1 .left) (at-arity .arity .ensures)
+    (c .before .if2 .taken)
 
 -- src/lib.rt:17:31
 part-end-add-part-end-2 : (t : ℕ) → part-end-lts.Need-add-part-end-2 (
@@ -116,8 +122,13 @@ part-end-returns-3 : (t : ℕ) → part-end-lts.Need-returns-3 (
   part-end.Post,
 ) (part-end-at t) part-end.Post
 part-end-returns-3 t c =
-    let a = c .before .before .before .before .before .before .before .before .args in
-    c .part-end3 .ensures ∙ end-two (a .s .now) (a .at) (c .before .before .before .before .arity .result) (c .before .before .before .before .before .before .if1 .left) (c .before .before .before .before .arity .ensures) (c .before .part-end2 .result) (c .before .before .if3 .taken) (c .before .part-end2 .ensures)
+    let at-if3 = c .before .before in
+    let at-arity = at-if3 .before .before in
+    let at-if1 = at-arity .before .before in
+    let start = at-if1 .before .before in
+    let a = start .args in
+    c .part-end3 .ensures ∙ end-two (a .s .now) (a .at) (at-arity .arity .result) (at-if1 .if1 .left) (at-arity .arity .ensures)
+    (c .before .part-end2 .result) (at-if3 .if3 .taken) (c .before .part-end2 .ensures)
 
 -- src/lib.rt:20:5
 part-end-add-result : (t : ℕ) → part-end-lts.Need-add-result (
@@ -136,8 +147,12 @@ part-end-returns-4 : (t : ℕ) → part-end-lts.Need-returns-4 (
   part-end.Post,
 ) (part-end-at t) part-end.Post
 part-end-returns-4 t c =
-    let a = c .before .before .before .before .before .before .args in
-    end-leaf (a .s .now) (a .at) (c .before .before .arity .result) (c .before .before .before .before .if1 .left) (c .before .before .arity .ensures) (c .before .if2 .left) (c .if3 .left)
+    let at-arity = c .before .before in
+    let at-if1 = at-arity .before .before in
+    let start = at-if1 .before .before in
+    let a = start .args in
+    end-leaf (a .s .now) (a .at) (at-arity .arity .result) (at-if1 .if1 .left) (at-arity .arity .ensures) (c .before .if2 .left)
+    (c .if3 .left)
 
 pub +part-end-spec : {M : Type 1} → statement M
 +part-end-spec = close μ-part-end λ t. part-end-lts.spec (

@@ -29,15 +29,28 @@ byte-at-requires-2 : tie.Need-byte-at-requires-2
 byte-at-requires-2 c κs = search needs
 
 returns-2 : tie.Need-returns-2
-returns-2 c = Move.argument (c .before .before .part-end .ensures) (sym (c .before .before .before .before .before .byte-at .ensures) ∙ c .before .before .before .if2 .taken) (sym (c .before .byte-at2 .ensures) ∙ c .if3 .taken)
+returns-2 c =
+    let at-part-end = c .before .before in
+    let at-if2 = at-part-end .before in
+    let at-if2 = at-if2 in
+    let at-byte-at = at-if2 .before .before in
+    Move.argument (at-part-end .part-end .ensures) (sym (at-byte-at .byte-at .ensures) ∙ at-if2 .if2 .taken)
+    (sym (c .before .byte-at2 .ensures) ∙ c .if3 .taken)
 
 returns-3 : tie.Need-returns-3
 returns-3 c =
-    let a = c .before .before .before .before .before .before .before .args in
-    Move.here (λ e. c .before .before .before .before .if1 .left (c .before .before .before .before .before .byte-at .ensures ∙ e)) (λ b e. c .if3 .left (c .before .byte-at2 .ensures ∙ ap (λ (n : ℕ). getD (a .s .now) n 0) (c .before .before .part-end .ensures) ∙ e))
+    let at-part-end = c .before .before in
+    let at-if1 = at-part-end .before .before in
+    let at-byte-at = at-if1 .before in
+    let start = at-byte-at .before .before in
+    let a = start .args in
+    Move.here (λ e. at-if1 .if1 .left (at-byte-at .byte-at .ensures ∙ e))
+    (λ b e. c .if3 .left (c .before .byte-at2 .ensures ∙ ap (λ (n : ℕ). getD (a .s .now) n 0) (at-part-end .part-end .ensures) ∙ e))
 
 returns-4 : tie.Need-returns-4
-returns-4 c = Move.here (λ e. c .before .if1 .left (c .before .before .byte-at .ensures ∙ e)) (λ b. absurd (c .if2 .left (c .before .before .byte-at .ensures ∙ b)))
+returns-4 c =
+    let at-byte-at = c .before .before in
+    Move.here (λ e. c .before .if1 .left (at-byte-at .byte-at .ensures ∙ e)) (λ b. absurd (c .if2 .left (at-byte-at .byte-at .ensures ∙ b)))
 
 pub next-place-spec : {M : Type 1} → statement M
 next-place-spec =

@@ -24,12 +24,14 @@ find-requires c κs = search needs
 
 next-place-requires : tie.Need-next-place-requires Inv-loop μ-loop
 next-place-requires c κs =
-    let a = c .before .before .args in
+    let start = c .before .before in
+    let a = start .args in
     omega (arith, index-within (byte Letter.stop) (a .s .now), c .find .ensures)
 
 loop-holds : tie.Need-loop-holds Inv-loop μ-loop
 loop-holds c =
-    let a = c .before .before .before .args in (
+    let start = c .before .before .before in
+    let a = start .args in (
       omega (arith, index-within (byte Letter.stop) (a .s .now), c .before .find .ensures),
       c .next-place .ensures,
       λ r. subst (λ (i : ℕ). Leads (a .s .now) i r) (c .before .find .ensures),
@@ -39,19 +41,24 @@ next-place-requires-2 : tie.Need-next-place-requires-2 Inv-loop μ-loop
 next-place-requires-2 c κs = omega (arith, move-within (c .before .loop .inv .1) (c .loop-test .taken))
 
 loop-less : tie.Need-loop-less Inv-loop μ-loop
-loop-less c = omega (arith, move-within (c .before .before .loop .inv .1) (c .before .loop-test .taken))
+loop-less c =
+    let at-loop = c .before .before in
+    omega (arith, move-within (at-loop .loop .inv .1) (c .before .loop-test .taken))
 
 loop-again : tie.Need-loop-again Inv-loop μ-loop
-loop-again c = (
-  omega (arith, move-within (c .before .before .loop .inv .1) (c .before .loop-test .taken)),
-  c .next-place2 .ensures,
-  λ r l. c .before .before .loop .inv .2 r (Leads.goes (c .before .before .loop .inv .1) (c .before .loop-test .taken) l),
-)
+loop-again c =
+    let at-loop = c .before .before in (
+      omega (arith, move-within (at-loop .loop .inv .1) (c .before .loop-test .taken)),
+      c .next-place2 .ensures,
+      λ r l. at-loop .loop .inv .2 r (Leads.goes (at-loop .loop .inv .1) (c .before .loop-test .taken) l),
+    )
 
 returns : tie.Need-returns Inv-loop μ-loop
 returns c =
-    let a = c .before .before .before .before .before .args in
-    c .before .loop .inv .2 (c .before .loop .p) (Leads.ends (subst (Move (a .s .now) (c .before .loop .p)) (c .loop-test .left) (c .before .loop .inv .1)))
+    let start = c .before .before .before .before .before in
+    let a = start .args in
+    c .before .loop .inv .2 (c .before .loop .p)
+    (Leads.ends (subst (Move (a .s .now) (c .before .loop .p)) (c .loop-test .left) (c .before .loop .inv .1)))
 
 pub redex-spec : {M : Type 1} → statement M
 redex-spec =

@@ -23,8 +23,11 @@ shared-slice-read-if1 c = omega arith
 
 returns : tie.Need-returns Inv-loop μ-loop
 returns c =
-    let a = c .before .before .before .before .args in
-    omega (arith, index-here (a .b) (a .s .now) (c .before .before .before .loop .at) (c .before .before .loop-test .taken) (c .if1 .taken))
+    let at-loop-test = c .before .before in
+    let at-loop = at-loop-test .before in
+    let start = at-loop .before in
+    let a = start .args in
+    omega (arith, index-here (a .b) (a .s .now) (at-loop .loop .at) (at-loop-test .loop-test .taken) (c .if1 .taken))
 
 add-at : tie.Need-add-at Inv-loop μ-loop
 add-at c = omega arith
@@ -34,12 +37,16 @@ loop-less c = omega arith
 
 loop-again : tie.Need-loop-again Inv-loop μ-loop
 loop-again c =
-    let a = c .before .before .before .before .args in
-    (omega arith, omega (arith, index-later (a .b) (a .s .now) (c .before .before .before .loop .at) (c .before .before .loop-test .taken) (c .if1 .left)))
+    let at-loop-test = c .before .before in
+    let at-loop = at-loop-test .before in
+    let start = at-loop .before in
+    let a = start .args in
+    (omega arith, omega (arith, index-later (a .b) (a .s .now) (at-loop .loop .at) (at-loop-test .loop-test .taken) (c .if1 .left)))
 
 returns-2 : tie.Need-returns-2 Inv-loop μ-loop
 returns-2 c =
-    let a = c .before .before .args in
+    let start = c .before .before in
+    let a = start .args in
     omega (arith, index-end (a .b) (a .s .now) (c .before .loop .at) (c .loop-test .left))
 
 pub find-spec : {M : Type 1} → statement M

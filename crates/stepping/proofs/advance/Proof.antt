@@ -13,8 +13,9 @@ slice-reshare-prefix-redex c = search needs
 
 slice-aggregate-redex : tie.Need-slice-aggregate-redex
 slice-aggregate-redex c =
-    let a = c .before .before .before .args in
-    sym (length-take-le (a .len) (a .area .now) (c .before .before .before .pre .0))
+    let start = c .before .before .before in
+    let a = start .args in
+    sym (length-take-le (a .len) (a .area .now) (start .pre .0))
 
 redex-requires : tie.Need-redex-requires
 redex-requires c κs = search needs
@@ -30,17 +31,22 @@ same-length-2 c = search needs
 
 returns : tie.Need-returns
 returns c =
-    let a = c .before .before .before .before .before .before .before .before .before .before .before .before .args in
-    let cleared = c .before .before .before .before .clear .ensures in
-    λ t h. after-normal h (a .work .now) (c .before .before .before .before .before .before .before .before .redex .ensures) (c .before .before .before .before .before .before .before .if1 .taken) (cleared .0) (cleared .1)
+    let at-clear = c .before .before .before .before in
+    let at-if1 = at-clear .before .before .before in
+    let at-redex = at-if1 .before in
+    let start = at-redex .before .before .before .before in
+    let a = start .args in
+    let cleared = at-clear .clear .ensures in
+    λ t h. after-normal h (a .work .now) (at-redex .redex .ensures) (at-if1 .if1 .taken) (cleared .0) (cleared .1)
 
 slice-reshare-prefix-rewrite-at : tie.Need-slice-reshare-prefix-rewrite-at
 slice-reshare-prefix-rewrite-at c = search needs
 
 slice-aggregate-rewrite-at : tie.Need-slice-aggregate-rewrite-at
 slice-aggregate-rewrite-at c =
-    let a = c .before .before .before .before .before .before .args in
-    sym (length-take-le (a .len) (a .area .now) (c .before .before .before .before .before .before .pre .0))
+    let start = c .before .before .before .before .before .before in
+    let a = start .args in
+    sym (length-take-le (a .len) (a .area .now) (start .pre .0))
 
 rewrite-at-requires : tie.Need-rewrite-at-requires
 rewrite-at-requires c κs = search needs
@@ -62,21 +68,29 @@ same-length-4 c = search needs
 
 returns-2 : tie.Need-returns-2
 returns-2 c =
-    let a = c .before .before .before .before .before .before .before .before .before .before .before .before .before .before .before .before .args in
-    let pre = c .before .before .before .before .before .before .before .before .before .before .before .before .before .before .before .before .pre in
-    let w = c .before .before .before .before .before .before .before .before .before .rewrite-at in
+    let at-clear2 = c .before .before .before .before in
+    let at-if2 = at-clear2 .before .before .before in
+    let at-growth = at-if2 .before in
+    let at-rewrite-at = at-growth .before in
+    let at-if1 = at-rewrite-at .before .before in
+    let at-redex = at-if1 .before in
+    let start = at-redex .before .before .before .before in
+    let a = start .args in
+    let pre = start .pre in
+    let w = at-rewrite-at .rewrite-at in
     let makes : (t : Term) → Holds (a .area .now) (a .len) t → Makes t (w .result) =
-    λ t h. held-makes h (w .result) (c .before .before .before .before .before .before .before .before .before .before .before .before .redex .ensures) (c .before .before .before .before .before .before .before .before .before .before .before .if1 .left) (w .ensures) in
-    let cleared = c .before .before .before .before .clear2 .ensures in
-    λ t h. after-no-room h (a .work .now) (makes t h) (c .before .before .before .before .before .before .before .before .growth .ensures) (c .before .before .before .before .before .before .before .if2 .taken) (cleared .0) (cleared .1)
+    λ t h. held-makes h (w .result) (at-redex .redex .ensures) (at-if1 .if1 .left) (w .ensures) in
+    let cleared = at-clear2 .clear2 .ensures in
+    λ t h. after-no-room h (a .work .now) (makes t h) (at-growth .growth .ensures) (at-if2 .if2 .taken) (cleared .0) (cleared .1)
 
 slice-reshare-prefix-write : tie.Need-slice-reshare-prefix-write
 slice-reshare-prefix-write c = search needs
 
 slice-aggregate-write : tie.Need-slice-aggregate-write
 slice-aggregate-write c =
-    let a = c .before .before .before .before .before .before .before .before .before .before .args in
-    sym (length-take-le (a .len) (a .area .now) (c .before .before .before .before .before .before .before .before .before .before .pre .0))
+    let start = c .before .before .before .before .before .before .before .before .before .before in
+    let a = start .args in
+    sym (length-take-le (a .len) (a .area .now) (start .pre .0))
 
 write-requires : tie.Need-write-requires
 write-requires c κs = search needs
@@ -92,14 +106,23 @@ same-length-6 c = search needs
 
 returns-3 : tie.Need-returns-3
 returns-3 c =
-    let a = c .before .before .before .before .before .before .before .before .before .before .before .before .before .before .before .before .before .before .before .before .before .args in
-    let pre = c .before .before .before .before .before .before .before .before .before .before .before .before .before .before .before .before .before .before .before .before .before .pre in
-    let w = c .before .before .before .before .before .before .before .before .before .before .before .before .before .before .rewrite-at in
+    let at-put-back = c .before .before .before .before in
+    let at-write = at-put-back .before .before .before .before .before in
+    let at-if2 = at-write .before .before .before in
+    let at-growth = at-if2 .before in
+    let at-rewrite-at = at-growth .before in
+    let at-if1 = at-rewrite-at .before .before in
+    let at-redex = at-if1 .before in
+    let start = at-redex .before .before .before .before in
+    let a = start .args in
+    let pre = start .pre in
+    let w = at-rewrite-at .rewrite-at in
     let makes : (t : Term) → Holds (a .area .now) (a .len) t → Makes t (w .result) =
-    λ t h. held-makes h (w .result) (c .before .before .before .before .before .before .before .before .before .before .before .before .before .before .before .before .before .redex .ensures) (c .before .before .before .before .before .before .before .before .before .before .before .before .before .before .before .before .if1 .left) (w .ensures) in
-    let written = c .before .before .before .before .before .before .before .before .before .write .ensures in
-    let put = c .before .before .before .before .put-back .ensures in
-    λ t h. after-step h (a .work .now) (makes t h) (c .before .before .before .before .before .before .before .before .before .before .before .before .before .growth .ensures) (c .before .before .before .before .before .before .before .before .before .before .before .before .if2 .left) (pre .1) (written .0) (written .1) (put .0) (put .1)
+    λ t h. held-makes h (w .result) (at-redex .redex .ensures) (at-if1 .if1 .left) (w .ensures) in
+    let written = at-write .write .ensures in
+    let put = at-put-back .put-back .ensures in
+    λ t h. after-step h (a .work .now) (makes t h) (at-growth .growth .ensures) (at-if2 .if2 .left) (pre .1) (written .0) (written .1)
+    (put .0) (put .1)
 
 pub advance-spec : {M : Type 1} → statement M
 advance-spec =

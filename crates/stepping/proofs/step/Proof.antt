@@ -1,4 +1,5 @@
--- `stepping::step` meets its contract: each refusal is a law of `Stepped`, and what reading answers is handed to `advance`. Assumes nothing.
+-- `stepping::step` meets its contract: each refusal is a law of `Stepped`, and what reading answers is handed to `advance`. Assumes
+-- nothing.
 use Prim.Native.Nat.{ℕ, _≤_}
 use native.Mathlib.Omega.{arith}
 use mathlib.Core.Path.{_≡_, sym, _∙_, ap}
@@ -33,25 +34,30 @@ unread area len work short enough within (Beyond place) e k = reading-refused ar
 
 returns : tie.Need-returns
 returns c =
-    let a = c .before .before .before .args in
+    let start = c .before .before .before in
+    let a = start .args in
     area-refused (a .area .now) (a .len) (a .work .now) (c .if1 .taken)
 
 returns-2 : tie.Need-returns-2
 returns-2 c =
-    let a = c .before .before .before .before .args in
+    let start = c .before .before .before .before in
+    let a = start .args in
     work-refused (a .area .now) (a .len) (a .work .now) (c .before .if1 .left) (c .if2 .taken)
 
 returns-3 : tie.Need-returns-3
 returns-3 c =
-    let a = c .before .before .before .before .before .args in
-    length-refused (a .area .now) (a .len) (a .work .now) (c .before .before .if1 .left) (c .before .if2 .left) (c .if3 .taken)
+    let at-if1 = c .before .before in
+    let start = at-if1 .before .before .before in
+    let a = start .args in
+    length-refused (a .area .now) (a .len) (a .work .now) (at-if1 .if1 .left) (c .before .if2 .left) (c .if3 .taken)
 
 slice-reshare-prefix-read : tie.Need-slice-reshare-prefix-read
 slice-reshare-prefix-read c = search needs
 
 slice-aggregate-read : tie.Need-slice-aggregate-read
 slice-aggregate-read c =
-    let a = c .before .before .before .before .before .before .args in
+    let start = c .before .before .before .before .before .before in
+    let a = start .args in
     sym (length-take-le (a .len) (a .area .now) (c .before .if3 .left))
 
 read-requires : tie.Need-read-requires
@@ -65,16 +71,28 @@ same-length c = search needs
 
 returns-4 : tie.Need-returns-4
 returns-4 c =
-    let a = c .before .before .before .before .before .before .before .before .args in
-    unread (a .area .now) (a .len) (a .work .now) (c .before .before .before .before .before .if1 .left) (c .before .before .before .before .if2 .left) (c .before .before .before .if3 .left) (c .before .read .result) (c .before .read .ensures) (c .match .keys2)
+    let at-if3 = c .before .before .before in
+    let at-if2 = at-if3 .before in
+    let at-if1 = at-if2 .before in
+    let start = at-if1 .before .before .before in
+    let a = start .args in
+    unread (a .area .now) (a .len) (a .work .now) (at-if1 .if1 .left) (at-if2 .if2 .left) (at-if3 .if3 .left) (c .before .read .result)
+    (c .before .read .ensures) (c .match .keys2)
 
 advance-requires : tie.Need-advance-requires
 advance-requires c κs =
-    let a = c .before .before .before .before .before .before .before .before .before .before .before .before .args in
-    let reading = c .before .before .before .reading .given in
-    let answer = ap readingAnswer (sym (reading .1)) ∙ c .before .before .before .before .before .read .ensures in
-    let read = reading-answered (a .area .now) (a .len) (a .work .now) (c .before .before .before .before .before .before .before .before .before .if1 .left) (c .before .before .before .before .before .before .before .before .if2 .left) (c .before .before .before .before .before .before .before .if3 .left) (reading .0 .0) answer in
-    (read .1 .within, c .before .before .before .before .before .before .before .before .if2 .left)
+    let at-reading = c .before .before .before in
+    let at-read = at-reading .before .before in
+    let at-if3 = at-read .before .before in
+    let at-if2 = at-if3 .before in
+    let at-if1 = at-if2 .before in
+    let start = at-if1 .before .before .before in
+    let a = start .args in
+    let reading = at-reading .reading .given in
+    let answer = ap readingAnswer (sym (reading .1)) ∙ at-read .read .ensures in
+    let read = reading-answered (a .area .now) (a .len) (a .work .now) (at-if1 .if1 .left) (at-if2 .if2 .left) (at-if3 .if3 .left)
+    (reading .0 .0) answer in
+    (read .1 .within, at-if2 .if2 .left)
 
 same-length-2 : tie.Need-same-length-2
 same-length-2 c = search needs
@@ -84,11 +102,19 @@ same-length-3 c = search needs
 
 returns-5 : tie.Need-returns-5
 returns-5 c =
-    let a = c .before .before .before .before .before .before .before .before .before .before .before .before .before .before .before .before .before .args in
-    let reading = c .before .before .before .before .before .before .before .before .reading .given in
-    let answer = ap readingAnswer (sym (reading .1)) ∙ c .before .before .before .before .before .before .before .before .before .before .read .ensures in
-    let read = reading-answered (a .area .now) (a .len) (a .work .now) (c .before .before .before .before .before .before .before .before .before .before .before .before .before .before .if1 .left) (c .before .before .before .before .before .before .before .before .before .before .before .before .before .if2 .left) (c .before .before .before .before .before .before .before .before .before .before .before .before .if3 .left) (reading .0 .0) answer in
-    c .before .before .before .before .advance .ensures (read .0) (read .1) ∙ sym (read .2)
+    let at-advance = c .before .before .before .before in
+    let at-reading = at-advance .before .before .before .before in
+    let at-read = at-reading .before .before in
+    let at-if3 = at-read .before .before in
+    let at-if2 = at-if3 .before in
+    let at-if1 = at-if2 .before in
+    let start = at-if1 .before .before .before in
+    let a = start .args in
+    let reading = at-reading .reading .given in
+    let answer = ap readingAnswer (sym (reading .1)) ∙ at-read .read .ensures in
+    let read = reading-answered (a .area .now) (a .len) (a .work .now) (at-if1 .if1 .left) (at-if2 .if2 .left) (at-if3 .if3 .left)
+    (reading .0 .0) answer in
+    at-advance .advance .ensures (read .0) (read .1) ∙ sym (read .2)
 
 pub step-spec : {M : Type 1} → statement M
 step-spec =

@@ -11,7 +11,8 @@ use Rattle.writing.proofs.append_letter.Tie as tie
 
 returns : tie.Need-returns
 returns c =
-    let a = c .before .before .args in
+    let start = c .before .before in
+    let a = start .args in
     let zero = sym (c .if1 .taken) in
     let nothing = put-nothing (a .at) (a .dst .now) in (
       nothing .0 ∙ ap (λ (n : ℕ). put (a .at) (letterText n) (a .dst .now)) zero,
@@ -26,9 +27,12 @@ same-length c = search needs
 
 returns-2 : tie.Need-returns-2
 returns-2 c =
-    let a = c .before .before .before .before .before .before .args in
-    let appended = c .before .before .append-byte .ensures in
-    let text = letter-text (a .b) (c .before .before .before .before .if1 .left) in (
+    let at-append-byte = c .before .before in
+    let at-if1 = at-append-byte .before .before in
+    let start = at-if1 .before .before in
+    let a = start .args in
+    let appended = at-append-byte .append-byte .ensures in
+    let text = letter-text (a .b) (at-if1 .if1 .left) in (
       appended .0 ∙ ap (λ (l : List ℕ). put (a .at) l (a .dst .now)) text,
       appended .1 ∙ ap (λ (l : List ℕ). behind (a .at) l (a .dst .now)) text,
     )
