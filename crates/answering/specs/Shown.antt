@@ -1,5 +1,4 @@
--- The line that is printed of an answer. Document 01: "It prints outcome, count and term; or `refused`, number and place. .. The checking
--- program .. prints `accepted` and the line count, or `refused`, number and line."
+-- The line that is printed of an answer (REQUIREMENTS, Programs).
 use Prim.Native.Nat.{ℕ}
 use mathlib.Core.List.{List}
 use lib.ListN.{take}

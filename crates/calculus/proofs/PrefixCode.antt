@@ -132,7 +132,7 @@ text-injective t u e = uniquely-readable t u [] [] (ap (λ (s : List ℕ). s ++ 
 length-both : (t u : Term) → length (text t) ≡ size t → length (text u) ≡ size u → length (text t ++ text u) ≡ size t + size u
 length-both t u first second = length-append (text t) (text u) ∙ ap₂ _+_ first second
 
--- the size of a term is its number of letters
+-- the text of a term has as many bytes as its size says
 pub length-text : (t : Term) → length (text t) ≡ size t
 length-text Term.J = refl
 length-text (Term.R t) = ap suc (length-text t)

@@ -1,4 +1,4 @@
--- Turning (REQUIREMENTS, Turning): the rules used forwards or backwards on any part, any finite number of times, through terms of any size.
+-- Turning (REQUIREMENTS, Turning): finitely many changes, each in either direction, through terms of any size.
 use Prim.Native.Nat.{ℕ}
 use Rattle.calculus.specs.Term.{Term}
 use Rattle.calculus.specs.Change.{Place, Change}

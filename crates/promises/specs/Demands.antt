@@ -107,7 +107,6 @@ pub record Demands : Type 0 where
       (first second : List ℕ) (number line : ℕ) →
       matchingOf first second ≡ Reply.refused number line → CheckRefuses first number line ⊎ CheckRefuses second number line  -- what a caller in C decodes is the operation's reply, and the areas are as the operation leaves them
   pub in-c : InC
-
   -- ---- 2: each step, outcome, count and accepted derivation is the one that the papers name
   -- reading's reply is the one that its relation gives
   pub reads : (bytes : List ℕ) (reply : Reply ℕ) → (readingOf bytes ≡ reply) ↔ ReadsAs bytes reply

@@ -78,7 +78,7 @@ letter (suc k) at parts s h owes p e =
         let sum : owed l k ≡ suc k - 1 + owed l 0 = omega (arith, owed-sum l k) in
         ap (λ (n : ℕ). readingFrom n (suc at) (drop (suc at) s)) sum
 
--- 7 at a byte where the term is already whole
+-- 7 where a byte follows a whole term
 pub already-whole : (owing at : ℕ) (s : List ℕ) → at < length s → owing ≡ 0 → readingFrom owing at (drop at s) ≡ Reply.refused 7 at
 already-whole owing at s h e = rw (e, drop-cons s at 0)
 

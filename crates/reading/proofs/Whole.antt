@@ -230,7 +230,7 @@ goes-reads {bytes} (Goes.not-yet-whole {n = n} lettered short q) =
     let count : length bytes ≡ n = omega arith in
     subst (λ (m : ℕ). ReadsAs bytes (Reply.refused 6 m)) count (ReadsAs.not-yet-whole lettered (short-unwhole short))
 
--- reading replies as document 01's sentence says
+-- reading replies as the relation says
 pub reads-as : (bytes : List ℕ) → ReadsAs bytes (readingOf bytes)
 unfolding readingOf
 reads-as bytes = goes-reads (goes bytes 1 0)
