@@ -184,6 +184,6 @@ no-stop-normal Term.I n = Normal.normal-I
 no-stop-normal (Term.B u s) n = both-normal u s Normal.normal-B (no-stop-normal u) (no-stop-normal s) n
 no-stop-normal (Term.app t u) n = absurd (n (List·Memᴰ·head refl))
 
--- a term is normal when it has no full stop
+-- normal terms are those whose text lacks the full stop
 pub normal-text : (t : Term) → Normal t ↔ (List·Memᴰ (byte Letter.stop) (text t) → ⊥)
 normal-text t = (normal-no-stop, no-stop-normal t)
