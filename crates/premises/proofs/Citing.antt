@@ -1,123 +1,51 @@
--- Premise fields as the code reads them: digits one by one with a limit, and the line that a number names. Assumes nothing.
-use Prim.Native.Nat.{ℕ, zero, suc, _+_, _*_, _-_, _≤_, _<_}
-use native.Mathlib.Numerals.{add-one}
+-- Premise fields as the code reads them: the number that a field writes, and the line that it names. Assumes nothing.
+use Prim.Native.Nat.{ℕ, zero, suc, _+_, _-_, _≤_, _<_, min}
 use native.Mathlib.Omega.{arith}
 use mathlib.Core.Path.{_≡_, refl, sym, _∙_, ap, ap₂}
 use mathlib.Core.Bool.{Bool, true, false, _&&_, cond, false≢true}
 use mathlib.Core.List.{List, [], _∷_}
 use mathlib.Core.Option.{Option, none, some}
-use borrow.Author.Tests.{eq-eqb, ne-eqb, le-leb, lt-leb, lt-ltb, le-ltb, leb-true, leb-false}
+use borrow.Author.Tests.{eqb-true, le-leb, lt-leb, lt-ltb, leb-true, leb-false}
 use lib.Dec.{leb, ltb, eqb}
-use lib.ListN.{length, getD, drop, drop-of-length-le}
-use lib.Seq.{drop-cons}
+use lib.ListN.{length, getD}
 use Rattle.calculus.specs.Limits.{lineLimit}
-use Rattle.slices.specs.Numeral.{isDigit, allDigits, valueFrom, someIf, numberOf}
+use Rattle.slices.specs.Numeral.{digit0, allDigits, valueFrom, someIf, numberOf, zeroOr, isZero, decimalOf}
 use Rattle.derivation_files.specs.Line.{Premise, premiseOr, isDash, premiseOf}
 use Rattle.premises.specs.declared.Cited.{Cited}
 use Rattle.premises.specs.declared.Cited.the-variants.{Dash, Line, Nothing}
-use Rattle.premises.specs.Cited.{digitOf, upTo, lineIf, citedOf, isLine, citedFit}
+use Rattle.premises.specs.Cited.{upTo, lineIf, citedOf, isLine, citedFit}
 
--- ---- one digit
+-- ---- the number
 
-pub digit-low : (b : ℕ) → b < 48 → 10 ≡ digitOf b
-unfolding digitOf
-digit-low b h = rw (lt-leb 48 b h)
-
-pub digit-high : (b : ℕ) → 57 < b → 10 ≡ digitOf b
-unfolding digitOf
-digit-high b h = let low : 48 ≤ b = omega arith in rw (le-leb 48 b low, lt-leb b 57 h)
-
-pub digit-value : (b : ℕ) → 48 ≤ b → b ≤ 57 → b - 48 ≡ digitOf b
-unfolding digitOf
-digit-value b h k = rw (le-leb 48 b h, le-leb b 57 k)
-
--- a byte whose value is 10 is no digit
-no-digit : (b : ℕ) → digitOf b ≡ 10 → isDigit b ≡ false
-unfolding digitOf
-no-digit b = go (leb 48 b) (leb b 57) refl refl
-  where
-    go : (l h : Bool) → leb 48 b ≡ l → leb b 57 ≡ h → cond (l && h) (b - 48) 10 ≡ 10 → (l && h) ≡ false
-    go true true p q e = let low = leb-true 48 b p in let high = leb-true b 57 q in absurd (omega arith)
-    go true false p q e = refl
-    go false h p q e = refl
-
--- any other byte is one, of its value
-some-digit : (b : ℕ) → (digitOf b ≡ 10 → ⊥) → (isDigit b ≡ true) × (digitOf b ≡ b - 48)
-unfolding digitOf
-some-digit b = go (isDigit b)
-  where
-    go : (t : Bool) → (cond t (b - 48) 10 ≡ 10 → ⊥) → (t ≡ true) × (cond t (b - 48) 10 ≡ b - 48)
-    go true n = (refl, refl)
-    go false n = absurd (n refl)
-
-pub digit-few : (b digit : ℕ) → digit ≡ digitOf b → (digit ≡ 10 → ⊥) → digit ≤ 9
-unfolding digitOf
-digit-few b digit p n = go (leb 48 b) (leb b 57) refl refl p
-  where
-    go : (l h : Bool) → leb 48 b ≡ l → leb b 57 ≡ h → digit ≡ cond (l && h) (b - 48) 10 → digit ≤ 9
-    go true true p q e = let low = leb-true 48 b p in let high = leb-true b 57 q in omega arith
-    go true false p q e = absurd (n e)
-    go false h p q e = absurd (n e)
-
--- ---- digits one by one
-
--- the number that digits go on to write, where those before them wrote the value
-abbrev pub numberFrom : ℕ → List ℕ → Option ℕ
-numberFrom value bytes = someIf (allDigits bytes) (valueFrom value bytes)
-
--- the digit at a place
-at-digit : (value at : ℕ) (s : List ℕ) → at < length s → numberFrom value (drop at s) ≡ numberFrom value (getD s at 0 ∷ drop (at + 1) s)
-at-digit value at s h = ap (numberFrom value) (drop-cons s at 0 h ∙ ap (λ (k : ℕ). getD s at 0 ∷ drop k s) (sym (add-one at)))
-
-pub at-none : (value at digit : ℕ) (s : List ℕ) → at < length s → digit ≡ digitOf (getD s at 0) → digit ≡ 10 → 0 ≡ upTo lineLimit (numberFrom value (drop at s))
-at-none value at digit s h p e =
-    sym (ap (upTo lineLimit) (at-digit value at s h ∙
-    ap (λ (t : Bool). someIf (t && allDigits (drop (at + 1) s)) (valueFrom (value * 10 + (getD s at 0 - 48)) (drop (at + 1) s))) (no-digit (getD s at 0) (sym p ∙ e))))
-
-pub at-some :
-    (value at digit : ℕ) (s : List ℕ) → at < length s → digit ≡ digitOf (getD s at 0) → (digit ≡ 10 → ⊥) →
-    numberFrom (value * 10 + digit) (drop (at + 1) s) ≡ numberFrom value (drop at s)
-at-some value at digit s h p n =
-    let (is, worth) = some-digit (getD s at 0) (λ e. n (p ∙ e)) in
-    sym (at-digit value at s h ∙
-    ap₂ (λ (t : Bool) (v : ℕ). someIf (t && allDigits (drop (at + 1) s)) (valueFrom (value * 10 + v) (drop (at + 1) s))) is (sym (p ∙ worth)))
-
--- digits make a number no smaller
-value-grows : (value : ℕ) (bytes : List ℕ) → value ≤ valueFrom value bytes
-value-grows value [] = omega arith
-value-grows value (b ∷ bytes) = let later = value-grows (value * 10 + (b - 48)) bytes in omega arith
-
-pub at-large : (value : ℕ) (bytes : List ℕ) → lineLimit < value → 0 ≡ upTo lineLimit (numberFrom value bytes)
-at-large value bytes h = go (allDigits bytes)
-  where
-    go : (t : Bool) → 0 ≡ upTo lineLimit (someIf t (valueFrom value bytes))
-    go true = let grown = value-grows value bytes in rw (lt-leb (valueFrom value bytes) lineLimit (omega arith))
-    go false = refl
-
-pub at-end : (value at : ℕ) (s : List ℕ) → length s ≤ at → value ≤ lineLimit → value ≡ upTo lineLimit (numberFrom value (drop at s))
-at-end value at s h few = sym (ap (λ (l : List ℕ). upTo lineLimit (numberFrom value l)) (drop-of-length-le s h) ∙ ap (λ (t : Bool). cond t value 0) (le-leb value lineLimit few))
-
-pub leading-zero : (s : List ℕ) → getD s 0 0 ≡ 48 → 0 ≡ upTo lineLimit (numberOf s)
+-- `0` names no line, as no number does
+zero-none : (s : List ℕ) → isZero s ≡ true → numberOf s ≡ none
 unfolding numberOf
-leading-zero [] e = refl
-leading-zero (b ∷ s) e = go (allDigits (b ∷ s)) ∙ ap (λ (c : ℕ). upTo lineLimit (someIf (allDigits (b ∷ s) && ltb 48 c) (valueFrom 0 (b ∷ s)))) (sym e)
-  where
-    go : (t : Bool) → 0 ≡ upTo lineLimit (someIf (t && ltb 48 48) (valueFrom 0 (b ∷ s)))
-    go true = refl
-    go false = refl
+zero-none [] e = absurd (false≢true e)
+zero-none (b ∷ []) e = ap (λ (c : ℕ). someIf (allDigits (c ∷ []) && ltb digit0 c) (valueFrom 0 (c ∷ []))) (eqb-true b digit0 e)
+zero-none (b ∷ c ∷ s) e = absurd (false≢true e)
 
-pub start : (s : List ℕ) → (getD s 0 0 ≡ 48 → ⊥) → upTo lineLimit (numberFrom 0 s) ≡ upTo lineLimit (numberOf s)
-unfolding numberOf
-start [] n = refl
-start (b ∷ s) n = go (leb 48 b) (leb b 57) (allDigits s) refl
+same-number : (s : List ℕ) → upTo lineLimit (decimalOf s) ≡ upTo lineLimit (numberOf s)
+unfolding decimalOf
+same-number s = go (isZero s) refl
   where
-    go :
-        (l h a : Bool) → leb 48 b ≡ l →
-        upTo lineLimit (someIf ((l && h) && a) (valueFrom 0 (b ∷ s))) ≡ upTo lineLimit (someIf (((l && h) && a) && ltb 48 b) (valueFrom 0 (b ∷ s)))
-    go true true true p = let low = leb-true 48 b p in rw (lt-ltb 48 b (omega arith))
-    go true true false p = refl
-    go true false a p = refl
-    go false h a p = refl
+    go : (t : Bool) → isZero s ≡ t → upTo lineLimit (zeroOr t (numberOf s)) ≡ upTo lineLimit (numberOf s)
+    go true e = sym (ap (upTo lineLimit) (zero-none s e))
+    go false e = refl
+
+-- what is read of a field: no number, one past the limit, or one within it
+pub number-none : (s : List ℕ) → decimalOf s ≡ none → 0 ≡ upTo lineLimit (numberOf s)
+number-none s e = sym (ap (upTo lineLimit) e) ∙ same-number s
+
+pub number-past : (s : List ℕ) (m kept : ℕ) → decimalOf s ≡ some m → kept ≡ min m (lineLimit + 1) → lineLimit < kept → 0 ≡ upTo lineLimit (numberOf s)
+number-past s m kept e p h =
+    let past : lineLimit < m = omega (arith, p, h) in
+    sym (ap (upTo lineLimit) e ∙ ap (λ (t : Bool). cond t m 0) (lt-leb m lineLimit past)) ∙ same-number s
+
+pub number-within : (s : List ℕ) (m kept : ℕ) → decimalOf s ≡ some m → kept ≡ min m (lineLimit + 1) → kept ≤ lineLimit → kept ≡ upTo lineLimit (numberOf s)
+number-within s m kept e p h =
+    let within : m ≤ lineLimit = omega (arith, p, h) in
+    let all : kept ≡ m = omega (arith, p, h) in
+    all ∙ sym (ap (upTo lineLimit) e ∙ ap (λ (t : Bool). cond t m 0) (le-leb m lineLimit within)) ∙ same-number s
 
 -- ---- the line that is named
 

@@ -6,13 +6,8 @@ use mathlib.Core.Option.{Option, none, some}
 use lib.Dec.{leb, ltb}
 use lib.ListN.{getD}
 use Rattle.derivation_files.specs.Line.{Premise}
-use Rattle.slices.specs.Numeral.{isDigit}
 use Rattle.premises.specs.declared.Cited.{Cited}
 use Rattle.premises.specs.declared.Cited.the-variants.{Dash, Line, Nothing}
-
--- the value of a digit, with 10 for a byte that is none
-unfoldable pub digitOf : ℕ → ℕ
-digitOf b = cond (isDigit b) (b - 48) 10
 
 -- the number, where there is one and it is at most the limit; else 0
 abbrev pub upTo : ℕ → Option ℕ → ℕ

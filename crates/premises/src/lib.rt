@@ -6,7 +6,8 @@ ghost use Rattle.calculus.specs.Limits.{lineLimit};
 ghost use Rattle.slices.specs.Numeral.{numberOf};
 ghost use Rattle.derivation_files.specs.Line.{isDash, premiseOf};
 ghost use Rattle.fields.specs.Texts.{textAt};
-ghost use Rattle.premises.specs.Cited.{digitOf, upTo, citedOf, isDashed, isLine, citedFit, startOr};
+ghost use Rattle.premises.specs.Cited.{upTo, citedOf, isDashed, isLine, citedFit, startOr};
+use decimals::Parsed;
 use fields::texts::Span;
 
 // The premise field of a rule that has no premise there.
@@ -107,34 +108,11 @@ fn start_of(starts: &[usize], line: usize) -> usize
 fn number_of(s: &[u8]) -> usize
     ensures { λ r. ⌜ r ≡ upTo lineLimit (numberOf (now (s .entry))) ⌝ }
 {
-    if slices::byte_at(s, 0) == 48 {
+    let Parsed::Number(number) = decimals::read_decimal(s, calculus::LINE_LIMIT as u64 + 1) else {
+        return 0;
+    };
+    if (calculus::LINE_LIMIT as u64) < number {
         return 0;
     }
-    let mut value: usize = 0;
-    let mut at = 0;
-    while at < s.len() {
-        let digit = digit_of(s[at]);
-        if digit == 10 {
-            return 0;
-        }
-        value = value * 10 + digit;
-        if calculus::LINE_LIMIT < value {
-            return 0;
-        }
-        at += 1;
-    }
-    value
-}
-
-// The value of a digit; 10 for a byte that is none.
-fn digit_of(b: u8) -> usize
-    ensures { λ r. ⌜ r ≡ digitOf b ⌝ }
-{
-    if b < 48 {
-        return 10;
-    }
-    if 57 < b {
-        return 10;
-    }
-    (b - 48) as usize
+    number as usize
 }
