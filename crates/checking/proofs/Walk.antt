@@ -14,7 +14,7 @@ use lib.Seq.{drop-cons, getD-set-same, getD-set-other}
 use Rattle.reading.specs.Reply.{Reply, numberIn, refuseIf}
 use Rattle.calculus.specs.Limits.{fileLimit, lineLimit}
 use Rattle.calculus.specs.Typing.{Judgement}
-use Rattle.slices.specs.Split.{consFirst, cutOr, split, allButLast, lines, fields, lastByte}
+use Rattle.slices.specs.Split.{lineFeed, consFirst, cutOr, split, allButLast, lines, fields, lastByte}
 use Rattle.derivation_files.specs.Checking.{Found, earlierLine, foundFields, onward, checkLines, checkingOf}
 use Rattle.fields.specs.Fields.{judgedAt, sixAt, hasSix, Texts, textsAt}
 use Rattle.checking.specs.TextChecking.{wellFormed, instanceAt, isAnswered, unless, sixReply, ruleIn, firstIn, secondIn, lineReply}
@@ -38,9 +38,9 @@ last-drop (suc at) (b ∷ []) h = absurd (omega arith)
 last-drop (suc at) (b ∷ c ∷ s) h = last-drop at (c ∷ s) (omega arith)
 
 -- bytes whose last is a line feed hold a line
-feeds : (b : ℕ) (s : List ℕ) → lastByte (b ∷ s) ≡ 10 → laterPieces (b ∷ s) ≡ [] → ⊥
-feeds b [] e none-left = let z : _≡_ {A = ℕ} 0 1 = ap length (sym none-left ∙ ap (λ (t : Bool). tailOf (cutOr t b ([] ∷ []))) (eq-eqb b 10 e)) in omega arith
-feeds b (c ∷ s) e none-left = go (eqb b 10) (split 10 (c ∷ s)) (some-piece 10 (c ∷ s)) (feeds c s e) none-left
+feeds : (b : ℕ) (s : List ℕ) → lastByte (b ∷ s) ≡ lineFeed → laterPieces (b ∷ s) ≡ [] → ⊥
+feeds b [] e none-left = let z : _≡_ {A = ℕ} 0 1 = ap length (sym none-left ∙ ap (λ (t : Bool). tailOf (cutOr t b ([] ∷ []))) (eq-eqb b lineFeed e)) in omega arith
+feeds b (c ∷ s) e none-left = go (eqb b lineFeed) (split lineFeed (c ∷ s)) (some-piece lineFeed (c ∷ s)) (feeds c s e) none-left
   where
     go :
         (t : Bool) (pieces : List (List ℕ)) → pieces ≡ headOf pieces ∷ tailOf pieces → (tailOf pieces ≡ [] → ⊥) → tailOf (cutOr t b pieces) ≡ [] → ⊥
@@ -48,16 +48,16 @@ feeds b (c ∷ s) e none-left = go (eqb b 10) (split 10 (c ∷ s)) (some-piece 1
     go false [] some-p later e = later e
     go false (piece ∷ pieces) some-p later e = later e
 
-pub line-left : (s : List ℕ) (at : ℕ) → lastByte s ≡ 10 → at < length s → laterPieces (drop at s) ≡ [] → ⊥
+pub line-left : (s : List ℕ) (at : ℕ) → lastByte s ≡ lineFeed → at < length s → laterPieces (drop at s) ≡ [] → ⊥
 line-left s at last h = go (drop at s) refl (last-drop at s h ∙ last)
   where
-    go : (l : List ℕ) → drop at s ≡ l → lastByte l ≡ 10 → laterPieces l ≡ [] → ⊥
+    go : (l : List ℕ) → drop at s ≡ l → lastByte l ≡ lineFeed → laterPieces l ≡ [] → ⊥
     go [] e q none-left = absurd (omega arith)
     go (b ∷ l) e q none-left = feeds b l q none-left
 
 -- the first line, and the lines behind it
 lines-first : (bytes : List ℕ) → (laterPieces bytes ≡ [] → ⊥) → lines bytes ≡ firstLine bytes ∷ allButLast (laterPieces bytes)
-lines-first bytes more = ap allButLast (some-piece 10 bytes) ∙ go (laterPieces bytes) more
+lines-first bytes more = ap allButLast (some-piece lineFeed bytes) ∙ go (laterPieces bytes) more
   where
     go : (pieces : List (List ℕ)) → (pieces ≡ [] → ⊥) → allButLast (firstLine bytes ∷ pieces) ≡ firstLine bytes ∷ allButLast pieces
     go [] more = absurd (more refl)
@@ -170,7 +170,7 @@ module _
     (n at : ℕ)
     (claim : Judged)
     (passed : Passed file starts n at claim)
-    (last : lastByte file ≡ 10)
+    (last : lastByte file ≡ lineFeed)
     (within : at < length file) where
   one-line : lines (drop at file) ≡ firstLine (drop at file) ∷ allButLast (laterPieces (drop at file))
   one-line = lines-first (drop at file) (line-left file at last within)
@@ -225,20 +225,20 @@ length-feed : (pieces : List (List ℕ)) → pieces ≡ headOf pieces ∷ tailOf
 length-feed [] e = let z : _≡_ {A = ℕ} 0 1 = ap length e in absurd (omega arith)
 length-feed (piece ∷ pieces) e = refl
 
-at-byte : (s : List ℕ) (at : ℕ) → at < length s → lines (drop at s) ≡ allButLast (cutOr (eqb (getD s at 0) 10) (getD s at 0) (split 10 (drop (at + 1) s)))
+at-byte : (s : List ℕ) (at : ℕ) → at < length s → lines (drop at s) ≡ allButLast (cutOr (eqb (getD s at 0) lineFeed) (getD s at 0) (split lineFeed (drop (at + 1) s)))
 at-byte s at h =
     ap lines (drop-cons s at 0 h) ∙
-    ap (λ (k : ℕ). allButLast (cutOr (eqb (getD s at 0) 10) (getD s at 0) (split 10 (drop k s)))) (sym (add-one at))
+    ap (λ (k : ℕ). allButLast (cutOr (eqb (getD s at 0) lineFeed) (getD s at 0) (split lineFeed (drop k s)))) (sym (add-one at))
 
-pub at-feed : (s : List ℕ) (at : ℕ) → at < length s → getD s at 0 ≡ 10 → length (lines (drop at s)) ≡ suc (length (lines (drop (at + 1) s)))
+pub at-feed : (s : List ℕ) (at : ℕ) → at < length s → getD s at 0 ≡ lineFeed → length (lines (drop at s)) ≡ suc (length (lines (drop (at + 1) s)))
 at-feed s at h e =
-    ap length (at-byte s at h ∙ ap (λ (t : Bool). allButLast (cutOr t (getD s at 0) (split 10 (drop (at + 1) s)))) (eq-eqb (getD s at 0) 10 e)) ∙
-    length-feed (split 10 (drop (at + 1) s)) (some-piece 10 (drop (at + 1) s))
+    ap length (at-byte s at h ∙ ap (λ (t : Bool). allButLast (cutOr t (getD s at 0) (split lineFeed (drop (at + 1) s)))) (eq-eqb (getD s at 0) lineFeed e)) ∙
+    length-feed (split lineFeed (drop (at + 1) s)) (some-piece lineFeed (drop (at + 1) s))
 
-pub at-other : (s : List ℕ) (at : ℕ) → at < length s → (getD s at 0 ≡ 10 → ⊥) → length (lines (drop at s)) ≡ length (lines (drop (at + 1) s))
+pub at-other : (s : List ℕ) (at : ℕ) → at < length s → (getD s at 0 ≡ lineFeed → ⊥) → length (lines (drop at s)) ≡ length (lines (drop (at + 1) s))
 at-other s at h n =
-    ap length (at-byte s at h ∙ ap (λ (t : Bool). allButLast (cutOr t (getD s at 0) (split 10 (drop (at + 1) s)))) (ne-eqb (getD s at 0) 10 n)) ∙
-    length-longer (getD s at 0) (split 10 (drop (at + 1) s)) (some-piece 10 (drop (at + 1) s))
+    ap length (at-byte s at h ∙ ap (λ (t : Bool). allButLast (cutOr t (getD s at 0) (split lineFeed (drop (at + 1) s)))) (ne-eqb (getD s at 0) lineFeed n)) ∙
+    length-longer (getD s at 0) (split lineFeed (drop (at + 1) s)) (some-piece lineFeed (drop (at + 1) s))
 
 pub no-more : (s : List ℕ) (at : ℕ) → length s ≤ at → length (lines (drop at s)) ≡ 0
 no-more s at h = ap (λ (l : List ℕ). length (lines l)) (drop-of-length-le s h)
@@ -258,30 +258,30 @@ refusals long empty unended many other = refuseIf long 10 (refuseIf empty 11 (re
 
 module _ (file : List ℕ) where
   whole :
-      (long empty feed many : Bool) → ltb fileLimit (length file) ≡ long → eqb (length file) 0 ≡ empty → eqb (lastByte file) 10 ≡ feed →
-      ltb lineLimit (length (lines file)) ≡ many → refusals long empty (not feed) many (checkLines 0 [] (lines file)) ≡ checkingOf file
+      (long empty is-feed many : Bool) → ltb fileLimit (length file) ≡ long → eqb (length file) 0 ≡ empty → eqb (lastByte file) lineFeed ≡ is-feed →
+      ltb lineLimit (length (lines file)) ≡ many → refusals long empty (not is-feed) many (checkLines 0 [] (lines file)) ≡ checkingOf file
   unfolding checkingOf
-  whole long empty feed many p q r t =
-      sym (ap₂ (λ (a b : Bool). refusals a b (not (eqb (lastByte file) 10)) (ltb lineLimit (length (lines file))) (checkLines 0 [] (lines file))) p q ∙
+  whole long empty is-feed many p q r t =
+      sym (ap₂ (λ (a b : Bool). refusals a b (not (eqb (lastByte file) lineFeed)) (ltb lineLimit (length (lines file))) (checkLines 0 [] (lines file))) p q ∙
       ap₂ (λ (a b : Bool). refusals long empty (not a) b (checkLines 0 [] (lines file))) r t)
 
   pub too-long : fileLimit < length file → Reply.refused 10 0 ≡ checkingOf file
-  too-long h = whole true (eqb (length file) 0) (eqb (lastByte file) 10) (ltb lineLimit (length (lines file))) (lt-ltb fileLimit (length file) h) refl refl refl
+  too-long h = whole true (eqb (length file) 0) (eqb (lastByte file) lineFeed) (ltb lineLimit (length (lines file))) (lt-ltb fileLimit (length file) h) refl refl refl
 
   pub is-empty : length file ≤ fileLimit → length file ≡ 0 → Reply.refused 11 0 ≡ checkingOf file
-  is-empty h e = whole false true (eqb (lastByte file) 10) (ltb lineLimit (length (lines file))) (le-ltb fileLimit (length file) h) (eq-eqb (length file) 0 e) refl refl
+  is-empty h e = whole false true (eqb (lastByte file) lineFeed) (ltb lineLimit (length (lines file))) (le-ltb fileLimit (length file) h) (eq-eqb (length file) 0 e) refl refl
 
   module _ (short : length file ≤ fileLimit) (some-byte : length file ≡ 0 → ⊥) where
-    pub no-line-end : (lastByte file ≡ 10 → ⊥) → Reply.refused 12 0 ≡ checkingOf file
+    pub no-line-end : (lastByte file ≡ lineFeed → ⊥) → Reply.refused 12 0 ≡ checkingOf file
     no-line-end n =
-        whole false false false (ltb lineLimit (length (lines file))) (le-ltb fileLimit (length file) short) (ne-eqb (length file) 0 some-byte) (ne-eqb (lastByte file) 10 n) refl
+        whole false false false (ltb lineLimit (length (lines file))) (le-ltb fileLimit (length file) short) (ne-eqb (length file) 0 some-byte) (ne-eqb (lastByte file) lineFeed n) refl
 
-    pub too-many : lastByte file ≡ 10 → lineLimit < length (lines file) → Reply.refused 13 0 ≡ checkingOf file
+    pub too-many : lastByte file ≡ lineFeed → lineLimit < length (lines file) → Reply.refused 13 0 ≡ checkingOf file
     too-many e h =
-        whole false false true true (le-ltb fileLimit (length file) short) (ne-eqb (length file) 0 some-byte) (eq-eqb (lastByte file) 10 e)
+        whole false false true true (le-ltb fileLimit (length file) short) (ne-eqb (length file) 0 some-byte) (eq-eqb (lastByte file) lineFeed e)
         (lt-ltb lineLimit (length (lines file)) h)
 
-    pub line-by-line : lastByte file ≡ 10 → length (lines file) ≤ lineLimit → checkLines 0 [] (lines file) ≡ checkingOf file
+    pub line-by-line : lastByte file ≡ lineFeed → length (lines file) ≤ lineLimit → checkLines 0 [] (lines file) ≡ checkingOf file
     line-by-line e h =
-        whole false false true false (le-ltb fileLimit (length file) short) (ne-eqb (length file) 0 some-byte) (eq-eqb (lastByte file) 10 e)
+        whole false false true false (le-ltb fileLimit (length file) short) (ne-eqb (length file) 0 some-byte) (eq-eqb (lastByte file) lineFeed e)
         (le-ltb lineLimit (length (lines file)) h)

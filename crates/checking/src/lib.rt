@@ -7,7 +7,7 @@ ghost use mathlib.Core.List.{[]};
 ghost use lib.ListN.{length};
 ghost use Rattle.reading.specs.Reply.{numberIn, placeIn};
 ghost use Rattle.calculus.specs.Limits.{lineLimit};
-ghost use Rattle.slices.specs.Split.{lines, lastByte};
+ghost use Rattle.slices.specs.Split.{lineFeed, lines, lastByte};
 ghost use Rattle.derivation_files.specs.Checking.{checkLines, checkingOf};
 ghost use Rattle.fields.specs.Fields.{textsAt};
 ghost use Rattle.checking.specs.Answer.{answerOf};
@@ -23,7 +23,7 @@ pub enum Checking {
     FileTooLong,
     // The file is empty.
     FileEmpty,
-    // The last byte is not 10.
+    // The last byte is no line feed.
     NoLineEnd,
     // The file has over 1,024 lines.
     TooManyLines,
@@ -101,7 +101,7 @@ pub fn check_claim(file: &[u8]) -> Checked
     if file.len() == 0 {
         return refusal(Checking::FileEmpty);
     }
-    if slices::byte_at(file, file.len() - 1) != 10 {
+    if slices::byte_at(file, file.len() - 1) != slices::LINE_FEED {
         return refusal(Checking::NoLineEnd);
     }
     if calculus::LINE_LIMIT < line_count(file) {
@@ -138,7 +138,7 @@ fn line_count(file: &[u8]) -> usize
     let mut count: usize = 0;
     let mut at = 0;
     while at < file.len() {
-        if file[at] == 10 {
+        if file[at] == slices::LINE_FEED {
             count += 1;
         }
         at += 1;
@@ -148,7 +148,7 @@ fn line_count(file: &[u8]) -> usize
 
 // Line by line: the first bad line, or accepted with their number. Of the lines passed it keeps where they begin, and the claim of the last.
 fn check_lines(file: &[u8]) -> Checked
-    requires { ⌜ (lastByte (now file) ≡ 10) × (length (lines (now file)) ≤ lineLimit) ⌝ }
+    requires { ⌜ (lastByte (now file) ≡ lineFeed) × (length (lines (now file)) ≤ lineLimit) ⌝ }
     ensures { λ r. ⌜ answerOf (r .answer) ≡ checkLines 0 [] (lines (now (file .entry))) ⌝ }
     ensures claim { λ r. ⌜ textsAt (r .claim) (now (file .entry)) ≡ claimTexts (checkLines 0 [] (lines (now (file .entry)))) (now (file .entry)) ⌝ }
 {

@@ -12,7 +12,7 @@ use lib.Dec.{eqb, ltb}
 use lib.ListN.{length, getD, take, drop, drop-of-length-le, List·getD-eq-default}
 use lib.Seq.{drop-drop, getD-drop}
 use Rattle.slices.specs.Part.{part}
-use Rattle.slices.specs.Split.{consFirst, cutOr, split, fields}
+use Rattle.slices.specs.Split.{tab, lineFeed, consFirst, cutOr, split, fields}
 use Rattle.fields.specs.Texts.{textAt}
 use Rattle.slices.proofs.Decimal.{and-both}
 use Rattle.fields.specs.Fields.{stopIn, stopAt, behindIn, fieldAt, judgedAt, sixAt, isTab, hasSix}
@@ -29,10 +29,10 @@ tailOf (piece ∷ pieces) = pieces
 
 -- the first line, without the byte that ends it, and the pieces behind it
 abbrev pub firstLine : List ℕ → List ℕ
-firstLine bytes = headOf (split 10 bytes)
+firstLine bytes = headOf (split lineFeed bytes)
 
 abbrev pub laterPieces : List ℕ → List (List ℕ)
-laterPieces bytes = tailOf (split 10 bytes)
+laterPieces bytes = tailOf (split lineFeed bytes)
 
 head-longer : (b : ℕ) (pieces : List (List ℕ)) → headOf (consFirst b pieces) ≡ b ∷ headOf pieces
 head-longer b [] = refl
@@ -53,79 +53,79 @@ some-piece mark (b ∷ bytes) = go (eqb b mark) (split mark bytes)
     go false (piece ∷ pieces) = refl
 
 -- a byte that is no line feed
-first-longer : (b : ℕ) (bytes : List ℕ) → eqb b 10 ≡ false → firstLine (b ∷ bytes) ≡ b ∷ firstLine bytes
-first-longer b bytes e = ap (λ (t : Bool). headOf (cutOr t b (split 10 bytes))) e ∙ head-longer b (split 10 bytes)
+first-longer : (b : ℕ) (bytes : List ℕ) → eqb b lineFeed ≡ false → firstLine (b ∷ bytes) ≡ b ∷ firstLine bytes
+first-longer b bytes e = ap (λ (t : Bool). headOf (cutOr t b (split lineFeed bytes))) e ∙ head-longer b (split lineFeed bytes)
 
-later-same : (b : ℕ) (bytes : List ℕ) → eqb b 10 ≡ false → laterPieces (b ∷ bytes) ≡ laterPieces bytes
-later-same b bytes e = ap (λ (t : Bool). tailOf (cutOr t b (split 10 bytes))) e ∙ tail-longer b (split 10 bytes)
+later-same : (b : ℕ) (bytes : List ℕ) → eqb b lineFeed ≡ false → laterPieces (b ∷ bytes) ≡ laterPieces bytes
+later-same b bytes e = ap (λ (t : Bool). tailOf (cutOr t b (split lineFeed bytes))) e ∙ tail-longer b (split lineFeed bytes)
 
 -- ---- one field
 
 -- up to a tab goes one field, and the line goes on behind it
 pub tab-field :
-    (bytes : List ℕ) → getD bytes (stopIn bytes) 0 ≡ 9 →
+    (bytes : List ℕ) → getD bytes (stopIn bytes) 0 ≡ tab →
     (fields (firstLine bytes) ≡ take (stopIn bytes) bytes ∷ fields (firstLine (drop (suc (stopIn bytes)) bytes)))
     × (laterPieces bytes ≡ laterPieces (drop (suc (stopIn bytes)) bytes))
 tab-field [] e = absurd (omega arith)
-tab-field (b ∷ bytes) e = go (eqb b 9) (eqb b 10) refl refl (tab-field bytes) e
+tab-field (b ∷ bytes) e = go (eqb b tab) (eqb b lineFeed) refl refl (tab-field bytes) e
   where
     go :
-        (tab feed : Bool) → eqb b 9 ≡ tab → eqb b 10 ≡ feed →
-        (getD bytes (stopIn bytes) 0 ≡ 9 →
+        (is-tab is-feed : Bool) → eqb b tab ≡ is-tab → eqb b lineFeed ≡ is-feed →
+        (getD bytes (stopIn bytes) 0 ≡ tab →
         (fields (firstLine bytes) ≡ take (stopIn bytes) bytes ∷ fields (firstLine (drop (suc (stopIn bytes)) bytes)))
         × (laterPieces bytes ≡ laterPieces (drop (suc (stopIn bytes)) bytes))) →
-        getD (b ∷ bytes) (cond (tab || feed) 0 (suc (stopIn bytes))) 0 ≡ 9 →
-        (fields (firstLine (b ∷ bytes)) ≡ take (cond (tab || feed) 0 (suc (stopIn bytes))) (b ∷ bytes)
-        ∷ fields (firstLine (drop (suc (cond (tab || feed) 0 (suc (stopIn bytes)))) (b ∷ bytes))))
-        × (laterPieces (b ∷ bytes) ≡ laterPieces (drop (suc (cond (tab || feed) 0 (suc (stopIn bytes)))) (b ∷ bytes)))
+        getD (b ∷ bytes) (cond (is-tab || is-feed) 0 (suc (stopIn bytes))) 0 ≡ tab →
+        (fields (firstLine (b ∷ bytes)) ≡ take (cond (is-tab || is-feed) 0 (suc (stopIn bytes))) (b ∷ bytes)
+        ∷ fields (firstLine (drop (suc (cond (is-tab || is-feed) 0 (suc (stopIn bytes)))) (b ∷ bytes))))
+        × (laterPieces (b ∷ bytes) ≡ laterPieces (drop (suc (cond (is-tab || is-feed) 0 (suc (stopIn bytes)))) (b ∷ bytes)))
     go true feed p q later e =
-        let no-feed : eqb b 10 ≡ false = ap (λ (c : ℕ). eqb c 10) (eqb-true b 9 p) in
+        let no-feed : eqb b lineFeed ≡ false = ap (λ (c : ℕ). eqb c lineFeed) (eqb-true b tab p) in
         (ap fields (first-longer b bytes no-feed) ∙ ap (λ (t : Bool). cutOr t b (fields (firstLine bytes))) p, later-same b bytes no-feed)
-    go false true p q later e = absurd (eqb-false b 9 p e)
+    go false true p q later e = absurd (eqb-false b tab p e)
     go false false p q later e =
         let (first, others) = later e in
         (ap fields (first-longer b bytes q) ∙ ap₂ (λ (t : Bool) (ps : List (List ℕ)). cutOr t b ps) p first, later-same b bytes q ∙ others)
 
 -- where no tab follows, the field is the last
-pub last-field : (bytes : List ℕ) → (getD bytes (stopIn bytes) 0 ≡ 9 → ⊥) → fields (firstLine bytes) ≡ take (stopIn bytes) bytes ∷ []
+pub last-field : (bytes : List ℕ) → (getD bytes (stopIn bytes) 0 ≡ tab → ⊥) → fields (firstLine bytes) ≡ take (stopIn bytes) bytes ∷ []
 last-field [] n = refl
-last-field (b ∷ bytes) n = go (eqb b 9) (eqb b 10) refl refl (last-field bytes) n
+last-field (b ∷ bytes) n = go (eqb b tab) (eqb b lineFeed) refl refl (last-field bytes) n
   where
     go :
-        (tab feed : Bool) → eqb b 9 ≡ tab → eqb b 10 ≡ feed →
-        ((getD bytes (stopIn bytes) 0 ≡ 9 → ⊥) → fields (firstLine bytes) ≡ take (stopIn bytes) bytes ∷ []) →
-        (getD (b ∷ bytes) (cond (tab || feed) 0 (suc (stopIn bytes))) 0 ≡ 9 → ⊥) →
-        fields (firstLine (b ∷ bytes)) ≡ take (cond (tab || feed) 0 (suc (stopIn bytes))) (b ∷ bytes) ∷ []
-    go true feed p q later n = absurd (n (eqb-true b 9 p))
-    go false true p q later n = ap (λ (t : Bool). fields (headOf (cutOr t b (split 10 bytes)))) q
+        (is-tab is-feed : Bool) → eqb b tab ≡ is-tab → eqb b lineFeed ≡ is-feed →
+        ((getD bytes (stopIn bytes) 0 ≡ tab → ⊥) → fields (firstLine bytes) ≡ take (stopIn bytes) bytes ∷ []) →
+        (getD (b ∷ bytes) (cond (is-tab || is-feed) 0 (suc (stopIn bytes))) 0 ≡ tab → ⊥) →
+        fields (firstLine (b ∷ bytes)) ≡ take (cond (is-tab || is-feed) 0 (suc (stopIn bytes))) (b ∷ bytes) ∷ []
+    go true feed p q later n = absurd (n (eqb-true b tab p))
+    go false true p q later n = ap (λ (t : Bool). fields (headOf (cutOr t b (split lineFeed bytes)))) q
     go false false p q later n = ap fields (first-longer b bytes q) ∙ ap₂ (λ (t : Bool) (ps : List (List ℕ)). cutOr t b ps) p (later n)
 
 -- a line feed ends the line
-pub feed-ends : (bytes : List ℕ) → getD bytes (stopIn bytes) 0 ≡ 10 → laterPieces bytes ≡ split 10 (drop (suc (stopIn bytes)) bytes)
+pub feed-ends : (bytes : List ℕ) → getD bytes (stopIn bytes) 0 ≡ lineFeed → laterPieces bytes ≡ split lineFeed (drop (suc (stopIn bytes)) bytes)
 feed-ends [] e = absurd (omega arith)
-feed-ends (b ∷ bytes) e = go (eqb b 9) (eqb b 10) refl refl (feed-ends bytes) e
+feed-ends (b ∷ bytes) e = go (eqb b tab) (eqb b lineFeed) refl refl (feed-ends bytes) e
   where
     go :
-        (tab feed : Bool) → eqb b 9 ≡ tab → eqb b 10 ≡ feed →
-        (getD bytes (stopIn bytes) 0 ≡ 10 → laterPieces bytes ≡ split 10 (drop (suc (stopIn bytes)) bytes)) →
-        getD (b ∷ bytes) (cond (tab || feed) 0 (suc (stopIn bytes))) 0 ≡ 10 →
-        laterPieces (b ∷ bytes) ≡ split 10 (drop (suc (cond (tab || feed) 0 (suc (stopIn bytes)))) (b ∷ bytes))
-    go true feed p q later e = let nine = eqb-true b 9 p in absurd (omega arith)
-    go false true p q later e = ap (λ (t : Bool). tailOf (cutOr t b (split 10 bytes))) q
+        (is-tab is-feed : Bool) → eqb b tab ≡ is-tab → eqb b lineFeed ≡ is-feed →
+        (getD bytes (stopIn bytes) 0 ≡ lineFeed → laterPieces bytes ≡ split lineFeed (drop (suc (stopIn bytes)) bytes)) →
+        getD (b ∷ bytes) (cond (is-tab || is-feed) 0 (suc (stopIn bytes))) 0 ≡ lineFeed →
+        laterPieces (b ∷ bytes) ≡ split lineFeed (drop (suc (cond (is-tab || is-feed) 0 (suc (stopIn bytes)))) (b ∷ bytes))
+    go true feed p q later e = let nine = eqb-true b tab p in absurd (omega arith)
+    go false true p q later e = ap (λ (t : Bool). tailOf (cutOr t b (split lineFeed bytes))) q
     go false false p q later e = later-same b bytes q ∙ later e
 
 -- where neither follows, no line ends
-pub nothing-ends : (bytes : List ℕ) → (getD bytes (stopIn bytes) 0 ≡ 9 → ⊥) → (getD bytes (stopIn bytes) 0 ≡ 10 → ⊥) → laterPieces bytes ≡ []
+pub nothing-ends : (bytes : List ℕ) → (getD bytes (stopIn bytes) 0 ≡ tab → ⊥) → (getD bytes (stopIn bytes) 0 ≡ lineFeed → ⊥) → laterPieces bytes ≡ []
 nothing-ends [] n m = refl
-nothing-ends (b ∷ bytes) n m = go (eqb b 9) (eqb b 10) refl refl (nothing-ends bytes) n m
+nothing-ends (b ∷ bytes) n m = go (eqb b tab) (eqb b lineFeed) refl refl (nothing-ends bytes) n m
   where
     go :
-        (tab feed : Bool) → eqb b 9 ≡ tab → eqb b 10 ≡ feed →
-        ((getD bytes (stopIn bytes) 0 ≡ 9 → ⊥) → (getD bytes (stopIn bytes) 0 ≡ 10 → ⊥) → laterPieces bytes ≡ []) →
-        (getD (b ∷ bytes) (cond (tab || feed) 0 (suc (stopIn bytes))) 0 ≡ 9 → ⊥) →
-        (getD (b ∷ bytes) (cond (tab || feed) 0 (suc (stopIn bytes))) 0 ≡ 10 → ⊥) → laterPieces (b ∷ bytes) ≡ []
-    go true feed p q later n m = absurd (n (eqb-true b 9 p))
-    go false true p q later n m = absurd (m (eqb-true b 10 q))
+        (is-tab is-feed : Bool) → eqb b tab ≡ is-tab → eqb b lineFeed ≡ is-feed →
+        ((getD bytes (stopIn bytes) 0 ≡ tab → ⊥) → (getD bytes (stopIn bytes) 0 ≡ lineFeed → ⊥) → laterPieces bytes ≡ []) →
+        (getD (b ∷ bytes) (cond (is-tab || is-feed) 0 (suc (stopIn bytes))) 0 ≡ tab → ⊥) →
+        (getD (b ∷ bytes) (cond (is-tab || is-feed) 0 (suc (stopIn bytes))) 0 ≡ lineFeed → ⊥) → laterPieces (b ∷ bytes) ≡ []
+    go true feed p q later n m = absurd (n (eqb-true b tab p))
+    go false true p q later n m = absurd (m (eqb-true b lineFeed q))
     go false false p q later n m = later-same b bytes q ∙ later n m
 
 -- ---- one field at an index
@@ -167,31 +167,31 @@ module _ (s : List ℕ) (from : ℕ) where
       isTab s (stopAt s from) ≡ true →
       (fieldsFrom s from ≡ textFrom s from ∷ fieldsFrom s (nextFrom s from)) × (laterPieces (drop from s) ≡ laterPieces (drop (nextFrom s from) s))
   field-tab e =
-      let tab : getD s (stopAt s from) 0 ≡ 9 = eqb-true (getD s (stopAt s from) 0) 9 e in
-      let (first, others) = tab-field (drop from s) (sym byte-at-stop ∙ tab) in
-      let behind = behind-stop (in-file 9 (omega arith) tab) in
+      let here-tab : getD s (stopAt s from) 0 ≡ tab = eqb-true (getD s (stopAt s from) 0) tab e in
+      let (first, others) = tab-field (drop from s) (sym byte-at-stop ∙ here-tab) in
+      let behind = behind-stop (in-file tab (omega arith) here-tab) in
       (first ∙ ap₂ (λ (t : List ℕ) (l : List ℕ). t ∷ fields (firstLine l)) (sym text-taken) (sym behind), others ∙ ap laterPieces (sym behind))
 
   field-last : isTab s (stopAt s from) ≡ false → fieldsFrom s from ≡ textFrom s from ∷ []
   field-last e =
-      last-field (drop from s) (λ q. eqb-false (getD s (stopAt s from) 0) 9 e (byte-at-stop ∙ q)) ∙ ap (λ (t : List ℕ). t ∷ []) (sym text-taken)
+      last-field (drop from s) (λ q. eqb-false (getD s (stopAt s from) 0) tab e (byte-at-stop ∙ q)) ∙ ap (λ (t : List ℕ). t ∷ []) (sym text-taken)
 
   -- the field that ends a line that ends
   field-feed :
       isTab s (stopAt s from) ≡ false → (laterPieces (drop from s) ≡ [] → ⊥) →
-      (stopAt s from < length s) × (laterPieces (drop from s) ≡ split 10 (drop (stopAt s from + 1) s))
-  field-feed e ends = go (eqb (getD s (stopAt s from) 0) 10) refl
+      (stopAt s from < length s) × (laterPieces (drop from s) ≡ split lineFeed (drop (stopAt s from + 1) s))
+  field-feed e ends = go (eqb (getD s (stopAt s from) 0) lineFeed) refl
     where
-      go : (t : Bool) → eqb (getD s (stopAt s from) 0) 10 ≡ t → (stopAt s from < length s) × (laterPieces (drop from s) ≡ split 10 (drop (stopAt s from + 1) s))
+      go : (t : Bool) → eqb (getD s (stopAt s from) 0) lineFeed ≡ t → (stopAt s from < length s) × (laterPieces (drop from s) ≡ split lineFeed (drop (stopAt s from + 1) s))
       go true q =
-          let feed : getD s (stopAt s from) 0 ≡ 10 = eqb-true (getD s (stopAt s from) 0) 10 q in
-          let within = in-file 10 (omega arith) feed in
+          let here-feed : getD s (stopAt s from) 0 ≡ lineFeed = eqb-true (getD s (stopAt s from) 0) lineFeed q in
+          let within = in-file lineFeed (omega arith) here-feed in
           let behind : from + suc (stopIn (drop from s)) ≡ stopAt s from + 1 = omega arith in
-          (within, feed-ends (drop from s) (sym byte-at-stop ∙ feed) ∙ ap (split 10) (drop-drop (suc (stopIn (drop from s))) from s ∙ ap (λ (n : ℕ). drop n s) behind))
+          (within, feed-ends (drop from s) (sym byte-at-stop ∙ here-feed) ∙ ap (split lineFeed) (drop-drop (suc (stopIn (drop from s))) from s ∙ ap (λ (n : ℕ). drop n s) behind))
       go false q =
           absurd (ends (nothing-ends (drop from s)
-          (λ r. eqb-false (getD s (stopAt s from) 0) 9 e (byte-at-stop ∙ r))
-          (λ r. eqb-false (getD s (stopAt s from) 0) 10 q (byte-at-stop ∙ r))))
+          (λ r. eqb-false (getD s (stopAt s from) 0) tab e (byte-at-stop ∙ r))
+          (λ r. eqb-false (getD s (stopAt s from) 0) lineFeed q (byte-at-stop ∙ r))))
 
 -- ---- six fields
 
@@ -294,14 +294,14 @@ module _ (s : List ℕ) (at : ℕ) where
       go true true true true true true p q r t u v n six =
           let five = ap length (five-tabs p q r t u) in
           let more = ap length (field-tab s (sixth s at) v .0) in
-          let some-field = ap length (some-piece 9 (firstLine (drop (nextFrom s (sixth s at)) s))) in
+          let some-field = ap length (some-piece tab (firstLine (drop (nextFrom s (sixth s at)) s))) in
           omega arith
       go true true true true true false p q r t u v n six = absurd (false≢true (sym n))
 
 -- the line of six fields ends with a line feed, where there is one
 pub line-ends :
     (s : List ℕ) (at : ℕ) → hasSix s (sixAt s at) ≡ true → (laterPieces (drop at s) ≡ [] → ⊥) →
-    (sixAt s at .second .to < length s) × (laterPieces (drop at s) ≡ split 10 (drop (sixAt s at .second .to + 1) s))
+    (sixAt s at .second .to < length s) × (laterPieces (drop at s) ≡ split lineFeed (drop (sixAt s at .second .to + 1) s))
 unfolding sixAt
 line-ends s at e ends =
     let (texts, last, later) = six-found s at e in

@@ -9,6 +9,7 @@ use borrow.Author.Tests.{eq-eqb, ne-eqb, eqb-true, eqb-false, lt-ltb, le-ltb}
 use lib.Dec.{eqb, ltb}
 use lib.ListN.{length, getD, take, drop, drop-of-length-le}
 use lib.Seq.{drop-cons}
+use Rattle.slices.specs.Split.{tab, lineFeed}
 use Rattle.fields.specs.declared.texts.Span.{Span}
 use Rattle.fields.specs.declared.Judged.{Judged}
 use Rattle.fields.specs.declared.SixFields.{SixFields}
@@ -17,21 +18,21 @@ use Rattle.fields.specs.Fields.{stopIn, stopAt, behindIn, fieldAt, judge
 -- ---- one turn of `stop_from`
 
 -- the byte at a place
-at-byte : (at : ℕ) (s : List ℕ) → at < length s → stopIn (drop at s) ≡ cond (eqb (getD s at 0) 9 || eqb (getD s at 0) 10) 0 (suc (stopIn (drop (suc at) s)))
+at-byte : (at : ℕ) (s : List ℕ) → at < length s → stopIn (drop at s) ≡ cond (eqb (getD s at 0) tab || eqb (getD s at 0) lineFeed) 0 (suc (stopIn (drop (suc at) s)))
 at-byte at s h = ap stopIn (drop-cons s at 0 h)
 
-pub at-tab : (at : ℕ) (s : List ℕ) → at < length s → getD s at 0 ≡ 9 → at ≡ stopAt s at
-at-tab at s h e = let here : stopIn (drop at s) ≡ 0 = at-byte at s h ∙ rw (eq-eqb (getD s at 0) 9 e) in omega arith
+pub at-tab : (at : ℕ) (s : List ℕ) → at < length s → getD s at 0 ≡ tab → at ≡ stopAt s at
+at-tab at s h e = let here : stopIn (drop at s) ≡ 0 = at-byte at s h ∙ rw (eq-eqb (getD s at 0) tab e) in omega arith
 
-pub at-feed : (at : ℕ) (s : List ℕ) → at < length s → getD s at 0 ≡ 10 → at ≡ stopAt s at
+pub at-feed : (at : ℕ) (s : List ℕ) → at < length s → getD s at 0 ≡ lineFeed → at ≡ stopAt s at
 at-feed at s h e =
-    let here : stopIn (drop at s) ≡ 0 = at-byte at s h ∙ ap (λ (b : ℕ). cond (eqb b 9 || eqb b 10) 0 (suc (stopIn (drop (suc at) s)))) e in
+    let here : stopIn (drop at s) ≡ 0 = at-byte at s h ∙ ap (λ (b : ℕ). cond (eqb b tab || eqb b lineFeed) 0 (suc (stopIn (drop (suc at) s)))) e in
     omega arith
 
 pub at-other :
-    (at : ℕ) (s : List ℕ) → at < length s → (getD s at 0 ≡ 9 → ⊥) → (getD s at 0 ≡ 10 → ⊥) → stopAt s (at + 1) ≡ stopAt s at
+    (at : ℕ) (s : List ℕ) → at < length s → (getD s at 0 ≡ tab → ⊥) → (getD s at 0 ≡ lineFeed → ⊥) → stopAt s (at + 1) ≡ stopAt s at
 at-other at s h n m =
-    let here : stopIn (drop at s) ≡ suc (stopIn (drop (suc at) s)) = at-byte at s h ∙ rw (ne-eqb (getD s at 0) 9 n, ne-eqb (getD s at 0) 10 m) in
+    let here : stopIn (drop at s) ≡ suc (stopIn (drop (suc at) s)) = at-byte at s h ∙ rw (ne-eqb (getD s at 0) tab n, ne-eqb (getD s at 0) lineFeed m) in
     let there : stopIn (drop (at + 1) s) ≡ stopIn (drop (suc at) s) = ap (λ (k : ℕ). stopIn (drop k s)) (add-one at) in
     omega arith
 

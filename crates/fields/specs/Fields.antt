@@ -6,6 +6,7 @@ use mathlib.Core.Bool.{Bool, _&&_, _||_, not, cond}
 use mathlib.Core.List.{List, [], _∷_}
 use lib.Dec.{ltb, eqb}
 use lib.ListN.{length, getD, drop}
+use Rattle.slices.specs.Split.{tab, lineFeed}
 use Rattle.fields.specs.declared.texts.Span.{Span}
 use Rattle.fields.specs.declared.Judged.{Judged}
 use Rattle.fields.specs.declared.SixFields.{SixFields}
@@ -14,7 +15,7 @@ use Rattle.fields.specs.Texts.{textAt}
 -- how many bytes stand before the first tab or line feed
 abbrev pub stopIn : List ℕ → ℕ
 stopIn [] = 0
-stopIn (b ∷ bytes) = cond (eqb b 9 || eqb b 10) 0 (suc (stopIn bytes))
+stopIn (b ∷ bytes) = cond (eqb b tab || eqb b lineFeed) 0 (suc (stopIn bytes))
 
 -- the index of the first tab or line feed from an index on, and the end where there is none
 abbrev pub stopAt : List ℕ → ℕ → ℕ
@@ -44,7 +45,7 @@ sixAt file from =
     record { own = own; rule = rule; first = first; second = second }
 
 abbrev pub isTab : List ℕ → ℕ → Bool
-isTab file at = eqb (getD file at 0) 9
+isTab file at = eqb (getD file at 0) tab
 
 -- a tab ends each field but the last
 abbrev pub hasSix : List ℕ → SixFields → Bool

@@ -71,7 +71,7 @@ pub fn has_six(file: &[u8], line: SixFields) -> bool
 fn is_tab(file: &[u8], at: usize) -> bool
     ensures { λ r. ⌜ r ≡ isTab (now (file .entry)) at ⌝ }
 {
-    slices::byte_at(file, at) == 9
+    slices::byte_at(file, at) == slices::TAB
 }
 
 // The field that begins at an index.
@@ -100,10 +100,10 @@ fn stop_from(file: &[u8], from: usize) -> usize
 {
     let mut at = from;
     while at < file.len() {
-        if file[at] == 9 {
+        if file[at] == slices::TAB {
             return at;
         }
-        if file[at] == 10 {
+        if file[at] == slices::LINE_FEED {
             return at;
         }
         at += 1;
