@@ -19,7 +19,8 @@ abbrev pub lastTexts : Texts → List (List ℕ) → Texts
 lastTexts other [] = other
 lastTexts other (line ∷ rest) = lastTexts (firstThree (fields line)) rest
 
-last-texts : (line : List ℕ) (rest : List (List ℕ)) → lastTexts (firstThree (fields line)) rest ≡ firstThree (fields (lastLine (line ∷ rest)))
+last-texts :
+    (line : List ℕ) (rest : List (List ℕ)) → lastTexts (firstThree (fields line)) rest ≡ firstThree (fields (lastLine (line ∷ rest)))
 last-texts line [] = refl
 last-texts line (next ∷ rest) = last-texts next rest
 
@@ -37,15 +38,18 @@ claim-start file = all-texts (lines file)
 -- behind a line of six fields
 pub claim-next :
     (file : List ℕ) (claim : Judged) (at next : ℕ) → hasSix file (sixAt file at) ≡ true →
-    lines (drop at file) ≡ firstLine (drop at file) ∷ lines (drop next file) → Claimed file claim at → Claimed file (sixAt file at .own) next
+    lines (drop at file) ≡ firstLine (drop at file) ∷ lines (drop next file) → Claimed file claim at →
+    Claimed file (sixAt file at .own) next
 claim-next file claim at next six cut claimed =
-    sym (ap (lastTexts (textsAt claim file)) cut ∙ ap (λ (t : List (List ℕ)). lastTexts (firstThree t) (lines (drop next file))) (six-found file at six .0)) ∙ claimed
+    sym (ap (lastTexts (textsAt claim file)) cut
+    ∙ ap (λ (t : List (List ℕ)). lastTexts (firstThree t) (lines (drop next file))) (six-found file at six .0)) ∙ claimed
 
 pub claim-end :
     (file : List ℕ) (claim : Judged) (n at : ℕ) (reply : Reply ℕ) → Claimed file claim at → length file ≤ at → Reply.answered n ≡ reply →
     textsAt claim file ≡ claimTexts reply file
 claim-end file claim n at reply claimed h e =
-    ap (λ (l : List ℕ). lastTexts (textsAt claim file) (lines l)) (sym (drop-of-length-le file h)) ∙ claimed ∙ ap (λ (r : Reply ℕ). claimTexts r file) e
+    ap (λ (l : List ℕ). lastTexts (textsAt claim file) (lines l)) (sym (drop-of-length-le file h)) ∙ claimed
+    ∙ ap (λ (r : Reply ℕ). claimTexts r file) e
 
 -- ---- refusals
 
@@ -56,7 +60,11 @@ by-number (Reply.answered m) n = absurd (n refl)
 
 -- a refusal has no claim
 pub refuses :
-    (file : List ℕ) (r : Checked) (answer : Checking) (number line : ℕ) (reply : Reply ℕ) → r ≡ refusalOf answer → answerOf answer ≡ Reply.refused number line →
+    (file : List ℕ) (r : Checked) (answer : Checking) (number line : ℕ) (reply : Reply ℕ) → r ≡ refusalOf answer →
+    answerOf answer ≡ Reply.refused number line →
     Reply.refused number line ≡ reply → (answerOf (r .answer) ≡ reply) × (textsAt (r .claim) file ≡ claimTexts reply file)
-refuses file r answer number line reply p q e =
-    (ap (λ (x : Checked). answerOf (x .answer)) p ∙ q ∙ e, ap (λ (x : Checked). textsAt (x .claim) file) p ∙ ap (λ (x : Reply ℕ). claimTexts x file) e)
+refuses file r answer number line reply p q e = (
+  ap (λ (x : Checked). answerOf (x .answer)) p ∙ q ∙ e,
+  ap (λ (x : Checked). textsAt (x .claim) file) p
+      ∙ ap (λ (x : Reply ℕ). claimTexts x file) e,
+)

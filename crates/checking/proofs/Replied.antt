@@ -46,7 +46,8 @@ module _
   same-reply : replyOf file n line rule first second ≡ lineReply file starts n line
   unfolding lineReply
   same-reply =
-      ap (λ (r : Rule). replyOf file n line r first second) named ∙ ap₂ (λ (x y : Cited). replyOf file n line (ruleIn file line) x y) one two
+      ap (λ (r : Rule). replyOf file n line r first second) named
+      ∙ ap₂ (λ (x y : Cited). replyOf file n line (ruleIn file line) x y) one two
 
   abbrev six : Bool
   six = hasSix file line
@@ -68,17 +69,25 @@ module _
 
   pub unknown : six ≡ true → formed ≡ true → isKnown rule ≡ false → Reply.refused 16 (n + 1) ≡ lineReply file starts n line
   unknown p q r =
-      sym (ap₂ (λ (t u : Bool). tests t u (isKnown rule) fits inst (n + 1)) p q ∙ ap (λ (t : Bool). tests true true t fits inst (n + 1)) r) ∙ same-reply
+      sym (ap₂ (λ (t u : Bool). tests t u (isKnown rule) fits inst (n + 1)) p q ∙ ap (λ (t : Bool). tests true true t fits inst (n + 1)) r)
+      ∙ same-reply
 
-  pub bad-premise : six ≡ true → formed ≡ true → isKnown rule ≡ true → fits ≡ false → Reply.refused 17 (n + 1) ≡ lineReply file starts n line
+  pub bad-premise :
+      six ≡ true → formed ≡ true → isKnown rule ≡ true → fits ≡ false → Reply.refused 17 (n + 1) ≡ lineReply file starts n line
   bad-premise p q r s =
-      sym (ap₂ (λ (t u : Bool). tests t u (isKnown rule) fits inst (n + 1)) p q ∙ ap₂ (λ (t u : Bool). tests true true t u inst (n + 1)) r s) ∙ same-reply
+      sym (ap₂ (λ (t u : Bool). tests t u (isKnown rule) fits inst (n + 1)) p q
+      ∙ ap₂ (λ (t u : Bool). tests true true t u inst (n + 1)) r s) ∙ same-reply
 
-  pub no-instance : six ≡ true → formed ≡ true → isKnown rule ≡ true → fits ≡ true → inst ≡ false → Reply.refused 18 (n + 1) ≡ lineReply file starts n line
-  no-instance p q r s t = sym (held six formed (isKnown rule) fits inst (n + 1) p q r s ∙ ap (λ (u : Bool). tests true true true true u (n + 1)) t) ∙ same-reply
+  pub no-instance :
+      six ≡ true → formed ≡ true → isKnown rule ≡ true → fits ≡ true → inst ≡ false →
+      Reply.refused 18 (n + 1) ≡ lineReply file starts n line
+  no-instance p q r s t =
+      sym (held six formed (isKnown rule) fits inst (n + 1) p q r s ∙ ap (λ (u : Bool). tests true true true true u (n + 1)) t) ∙ same-reply
 
-  pub good : six ≡ true → formed ≡ true → isKnown rule ≡ true → fits ≡ true → inst ≡ true → Reply.answered (n + 1) ≡ lineReply file starts n line
-  good p q r s t = sym (held six formed (isKnown rule) fits inst (n + 1) p q r s ∙ ap (λ (u : Bool). tests true true true true u (n + 1)) t) ∙ same-reply
+  pub good :
+      six ≡ true → formed ≡ true → isKnown rule ≡ true → fits ≡ true → inst ≡ true → Reply.answered (n + 1) ≡ lineReply file starts n line
+  good p q r s t =
+      sym (held six formed (isKnown rule) fits inst (n + 1) p q r s ∙ ap (λ (u : Bool). tests true true true true u (n + 1)) t) ∙ same-reply
 
 -- ---- premises
 
@@ -169,4 +178,5 @@ pub instance-named :
     r ≡ instanceText rule (textsAt own file) (textsAt i file) (textsAt k file) → r ≡ instanceAt file rule own first second
 instance-named file rule own i k first second m n r p q s t e =
     e ∙
-    ap₂ (λ (x y : Judged). instanceText rule (textsAt own file) (textsAt x file) (textsAt y file)) (q ∙ ap (judgedAt file) p) (t ∙ ap (judgedAt file) s)
+    ap₂ (λ (x y : Judged). instanceText rule (textsAt own file) (textsAt x file) (textsAt y file)) (q ∙ ap (judgedAt file) p)
+    (t ∙ ap (judgedAt file) s)

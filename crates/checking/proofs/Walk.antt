@@ -39,11 +39,14 @@ last-drop (suc at) (b ∷ c ∷ s) h = last-drop at (c ∷ s) (omega arith)
 
 -- bytes whose last is a line feed hold a line
 feeds : (b : ℕ) (s : List ℕ) → lastByte (b ∷ s) ≡ lineFeed → laterPieces (b ∷ s) ≡ [] → ⊥
-feeds b [] e none-left = let z : _≡_ {A = ℕ} 0 1 = ap length (sym none-left ∙ ap (λ (t : Bool). tailOf (cutOr t b ([] ∷ []))) (eq-eqb b lineFeed e)) in omega arith
+feeds b [] e none-left =
+    let z : _≡_ {A = ℕ} 0 1 = ap length (sym none-left ∙ ap (λ (t : Bool). tailOf (cutOr t b ([] ∷ []))) (eq-eqb b lineFeed e)) in
+    omega arith
 feeds b (c ∷ s) e none-left = go (eqb b lineFeed) (split lineFeed (c ∷ s)) (some-piece lineFeed (c ∷ s)) (feeds c s e) none-left
   where
     go :
-        (t : Bool) (pieces : List (List ℕ)) → pieces ≡ headOf pieces ∷ tailOf pieces → (tailOf pieces ≡ [] → ⊥) → tailOf (cutOr t b pieces) ≡ [] → ⊥
+        (t : Bool) (pieces : List (List ℕ)) → pieces ≡ headOf pieces ∷ tailOf pieces → (tailOf pieces ≡ [] → ⊥) →
+        tailOf (cutOr t b pieces) ≡ [] → ⊥
     go true pieces some-p later e = let z : _≡_ {A = ℕ} (suc (length (tailOf pieces))) 0 = ap length (sym some-p ∙ e) in omega arith
     go false [] some-p later e = later e
     go false (piece ∷ pieces) some-p later e = later e
@@ -78,7 +81,9 @@ found-good own line reply found (Verdict.good j e) answer = (j, e, refl)
 found-good own line reply found (Verdict.bad number) answer = absurd (false≢true answer)
 
 -- a line that is not refused is answered: a refusal has a number
-pub unrefused : (file starts : List ℕ) (n : ℕ) (line : SixFields) → numberIn (lineReply file starts n line) ≡ 0 → isAnswered (lineReply file starts n line) ≡ true
+pub unrefused :
+    (file starts : List ℕ) (n : ℕ) (line : SixFields) → numberIn (lineReply file starts n line) ≡ 0 →
+    isAnswered (lineReply file starts n line) ≡ true
 unfolding lineReply
 unrefused file starts n line =
     go (hasSix file line) (wellFormed (textsAt (line .own) file)) (isKnown (ruleIn file line))
@@ -94,17 +99,24 @@ unrefused file starts n line =
     go true true true true true z = refl
 
 -- a good line has six fields
-answered-six : (file starts : List ℕ) (n : ℕ) (line : SixFields) → isAnswered (lineReply file starts n line) ≡ true → hasSix file line ≡ true
+answered-six :
+    (file starts : List ℕ) (n : ℕ) (line : SixFields) → isAnswered (lineReply file starts n line) ≡ true → hasSix file line ≡ true
 unfolding lineReply
 answered-six file starts n line = go (hasSix file line)
   where
-    go : (t : Bool) → isAnswered (unless t 14 (n + 1) (sixReply file n line (ruleIn file line) (firstIn file starts n line) (secondIn file starts n line))) ≡ true → t ≡ true
+    go :
+        (t : Bool) →
+        isAnswered
+        (unless t 14 (n + 1) (sixReply file n line (ruleIn file line) (firstIn file starts n line) (secondIn file starts n line))) ≡ true →
+        t ≡ true
     go true e = refl
     go false e = e
 
 -- ---- the table, one line longer
 
-earlier-front : (earlier : List Judgement) (j : Judgement) (m : ℕ) → m < length earlier → earlierLine (earlier ++ (j ∷ [])) (suc m) ≡ earlierLine earlier (suc m)
+earlier-front :
+    (earlier : List Judgement) (j : Judgement) (m : ℕ) → m < length earlier →
+    earlierLine (earlier ++ (j ∷ [])) (suc m) ≡ earlierLine earlier (suc m)
 earlier-front [] j m h = absurd (omega arith)
 earlier-front (i ∷ is) j zero h = refl
 earlier-front (i ∷ is) j (suc m) h = earlier-front is j m (omega arith)
@@ -125,7 +137,8 @@ table-longer file starts earlier j n at count room same table m i e = go (decLe 
     go (no above) (yes up) =
         let here : m ≡ n = omega arith in
         let place : getD (set starts n at) m 0 ≡ at = ap (λ (k : ℕ). getD (set starts n at) k 0) here ∙ getD-set-same starts n at 0 room in
-        let found : some j ≡ some i = sym (ap (λ (k : ℕ). earlierLine (earlier ++ (j ∷ [])) (suc k)) (here ∙ sym count) ∙ earlier-last earlier j) ∙ e in
+        let found : some j ≡ some i = sym
+        (ap (λ (k : ℕ). earlierLine (earlier ++ (j ∷ [])) (suc k)) (here ∙ sym count) ∙ earlier-last earlier j) ∙ e in
         let which : j ≡ i = cc in
         ap (λ (k : ℕ). textsAt (judgedAt file k) file) place ∙ same ∙ ap textsOf which
     go (no above) (no past) =
@@ -179,12 +192,15 @@ module _
   room few = let one = ap length one-line in omega (arith, passed .left)
 
   verdict :
-      Verdict (textsAt (judgedAt file at) file) (n + 1) (lineReply file starts n (sixAt file at)) (foundFields (passed .earlier) (fields (firstLine (drop at file))))
+      Verdict (textsAt (judgedAt file at) file) (n + 1) (lineReply file starts n (sixAt file at))
+      (foundFields (passed .earlier) (fields (firstLine (drop at file))))
   verdict = line-verdict file starts n (passed .earlier) (passed .count) (passed .table) at
 
-  pub refused : isAnswered (lineReply file starts n (sixAt file at)) ≡ false → lineReply file starts n (sixAt file at) ≡ checkLines 0 [] (lines file)
+  pub refused :
+      isAnswered (lineReply file starts n (sixAt file at)) ≡ false → lineReply file starts n (sixAt file at) ≡ checkLines 0 [] (lines file)
   refused no-answer =
-      refused-whole (textsAt (judgedAt file at) file) n (lineReply file starts n (sixAt file at)) (foundFields (passed .earlier) (fields (firstLine (drop at file))))
+      refused-whole (textsAt (judgedAt file at) file) n (lineReply file starts n (sixAt file at))
+      (foundFields (passed .earlier) (fields (firstLine (drop at file))))
       (λ j. checkLines (suc n) (passed .earlier ++ (j ∷ [])) (allButLast (laterPieces (drop at file)))) verdict no-answer ∙
       ap (checkLines n (passed .earlier)) (sym one-line) ∙ passed .comes
 
@@ -195,19 +211,24 @@ module _
   again answer few =
       let six = answered-six file starts n (sixAt file at) answer in
       let (ends, later) = line-ends file at six (line-left file at last within) in
-      let (j, same, good) = found-good (textsAt (judgedAt file at) file) (n + 1) (lineReply file starts n (sixAt file at)) (foundFields (passed .earlier) (fields (firstLine (drop at file)))) verdict answer in
-      let rest : lines (drop at file) ≡ firstLine (drop at file) ∷ lines (drop (sixAt file at .second .to + 1) file) = one-line ∙ ap (λ (ps : List (List ℕ)). firstLine (drop at file) ∷ allButLast ps) later in
+      let (j, same, good) = found-good (textsAt (judgedAt file at) file) (n + 1) (lineReply file starts n (sixAt file at))
+      (foundFields (passed .earlier) (fields (firstLine (drop at file)))) verdict answer in
+      let rest : lines (drop at file) ≡ firstLine (drop at file) ∷ lines (drop (sixAt file at .second .to + 1) file) = one-line
+      ∙ ap (λ (ps : List (List ℕ)). firstLine (drop at file) ∷ allButLast ps) later in
       let one = ap length rest in (
         ends,
         record {
           earlier = passed .earlier ++ (j ∷ []);
           count = omega (arith, length-append (passed .earlier) (j ∷ []), passed .count);
           size = length-set starts n at ∙ passed .size;
-          table = table-longer file starts (passed .earlier) j n at (passed .count) (omega (arith, passed .size, room few)) same (passed .table);
+          table =
+              table-longer file starts (passed .earlier) j n at (passed .count) (omega (arith, passed .size, room few)) same
+              (passed .table);
           left = omega (arith, passed .left);
           comes =
               ap (λ (k : ℕ). checkLines k (passed .earlier ++ (j ∷ [])) (lines (drop (sixAt file at .second .to + 1) file))) (add-one n) ∙
-              sym (ap (λ (found : Found). onward n found (λ i. checkLines (suc n) (passed .earlier ++ (i ∷ [])) (lines (drop (sixAt file at .second .to + 1) file)))) good) ∙
+              sym (ap (λ (found : Found). onward n found
+              (λ i. checkLines (suc n) (passed .earlier ++ (i ∷ [])) (lines (drop (sixAt file at .second .to + 1) file)))) good) ∙
               ap (checkLines n (passed .earlier)) (sym rest) ∙ passed .comes;
           claimed = claim-next file claim at (sixAt file at .second .to + 1) six rest (passed .claimed);
         },
@@ -216,28 +237,39 @@ module _
 -- ---- counting lines
 
 -- a line feed is a line more, any other byte none
-length-longer : (b : ℕ) (pieces : List (List ℕ)) → pieces ≡ headOf pieces ∷ tailOf pieces → length (allButLast (consFirst b pieces)) ≡ length (allButLast pieces)
+length-longer :
+    (b : ℕ) (pieces : List (List ℕ)) → pieces ≡ headOf pieces ∷ tailOf pieces →
+    length (allButLast (consFirst b pieces)) ≡ length (allButLast pieces)
 length-longer b [] e = let z : _≡_ {A = ℕ} 0 1 = ap length e in absurd (omega arith)
 length-longer b (piece ∷ []) e = refl
 length-longer b (piece ∷ next ∷ pieces) e = refl
 
-length-feed : (pieces : List (List ℕ)) → pieces ≡ headOf pieces ∷ tailOf pieces → length (allButLast ([] ∷ pieces)) ≡ suc (length (allButLast pieces))
+length-feed :
+    (pieces : List (List ℕ)) → pieces ≡ headOf pieces ∷ tailOf pieces → length (allButLast ([] ∷ pieces)) ≡ suc (length (allButLast pieces))
 length-feed [] e = let z : _≡_ {A = ℕ} 0 1 = ap length e in absurd (omega arith)
 length-feed (piece ∷ pieces) e = refl
 
-at-byte : (s : List ℕ) (at : ℕ) → at < length s → lines (drop at s) ≡ allButLast (cutOr (eqb (getD s at 0) lineFeed) (getD s at 0) (split lineFeed (drop (at + 1) s)))
+at-byte :
+    (s : List ℕ) (at : ℕ) → at < length s →
+    lines (drop at s) ≡ allButLast (cutOr (eqb (getD s at 0) lineFeed) (getD s at 0) (split lineFeed (drop (at + 1) s)))
 at-byte s at h =
     ap lines (drop-cons s at 0 h) ∙
     ap (λ (k : ℕ). allButLast (cutOr (eqb (getD s at 0) lineFeed) (getD s at 0) (split lineFeed (drop k s)))) (sym (add-one at))
 
-pub at-feed : (s : List ℕ) (at : ℕ) → at < length s → getD s at 0 ≡ lineFeed → length (lines (drop at s)) ≡ suc (length (lines (drop (at + 1) s)))
+pub at-feed :
+    (s : List ℕ) (at : ℕ) → at < length s → getD s at 0 ≡ lineFeed → length (lines (drop at s)) ≡ suc (length (lines (drop (at + 1) s)))
 at-feed s at h e =
-    ap length (at-byte s at h ∙ ap (λ (t : Bool). allButLast (cutOr t (getD s at 0) (split lineFeed (drop (at + 1) s)))) (eq-eqb (getD s at 0) lineFeed e)) ∙
+    ap length
+    (at-byte s at h
+    ∙ ap (λ (t : Bool). allButLast (cutOr t (getD s at 0) (split lineFeed (drop (at + 1) s)))) (eq-eqb (getD s at 0) lineFeed e)) ∙
     length-feed (split lineFeed (drop (at + 1) s)) (some-piece lineFeed (drop (at + 1) s))
 
-pub at-other : (s : List ℕ) (at : ℕ) → at < length s → (getD s at 0 ≡ lineFeed → ⊥) → length (lines (drop at s)) ≡ length (lines (drop (at + 1) s))
+pub at-other :
+    (s : List ℕ) (at : ℕ) → at < length s → (getD s at 0 ≡ lineFeed → ⊥) → length (lines (drop at s)) ≡ length (lines (drop (at + 1) s))
 at-other s at h n =
-    ap length (at-byte s at h ∙ ap (λ (t : Bool). allButLast (cutOr t (getD s at 0) (split lineFeed (drop (at + 1) s)))) (ne-eqb (getD s at 0) lineFeed n)) ∙
+    ap length
+    (at-byte s at h
+    ∙ ap (λ (t : Bool). allButLast (cutOr t (getD s at 0) (split lineFeed (drop (at + 1) s)))) (ne-eqb (getD s at 0) lineFeed n)) ∙
     length-longer (getD s at 0) (split lineFeed (drop (at + 1) s)) (some-piece lineFeed (drop (at + 1) s))
 
 pub no-more : (s : List ℕ) (at : ℕ) → length s ≤ at → length (lines (drop at s)) ≡ 0
@@ -258,30 +290,39 @@ refusals long empty unended many other = refuseIf long 10 (refuseIf empty 11 (re
 
 module _ (file : List ℕ) where
   whole :
-      (long empty is-feed many : Bool) → ltb fileLimit (length file) ≡ long → eqb (length file) 0 ≡ empty → eqb (lastByte file) lineFeed ≡ is-feed →
+      (long empty is-feed many : Bool) → ltb fileLimit (length file) ≡ long → eqb (length file) 0 ≡ empty →
+      eqb (lastByte file) lineFeed ≡ is-feed →
       ltb lineLimit (length (lines file)) ≡ many → refusals long empty (not is-feed) many (checkLines 0 [] (lines file)) ≡ checkingOf file
   unfolding checkingOf
   whole long empty is-feed many p q r t =
-      sym (ap₂ (λ (a b : Bool). refusals a b (not (eqb (lastByte file) lineFeed)) (ltb lineLimit (length (lines file))) (checkLines 0 [] (lines file))) p q ∙
+      sym (ap₂ (λ (a b : Bool). refusals a b (not (eqb (lastByte file) lineFeed)) (ltb lineLimit (length (lines file)))
+      (checkLines 0 [] (lines file))) p q ∙
       ap₂ (λ (a b : Bool). refusals long empty (not a) b (checkLines 0 [] (lines file))) r t)
 
   pub too-long : fileLimit < length file → Reply.refused 10 0 ≡ checkingOf file
-  too-long h = whole true (eqb (length file) 0) (eqb (lastByte file) lineFeed) (ltb lineLimit (length (lines file))) (lt-ltb fileLimit (length file) h) refl refl refl
+  too-long h =
+      whole true (eqb (length file) 0) (eqb (lastByte file) lineFeed) (ltb lineLimit (length (lines file)))
+      (lt-ltb fileLimit (length file) h) refl refl refl
 
   pub is-empty : length file ≤ fileLimit → length file ≡ 0 → Reply.refused 11 0 ≡ checkingOf file
-  is-empty h e = whole false true (eqb (lastByte file) lineFeed) (ltb lineLimit (length (lines file))) (le-ltb fileLimit (length file) h) (eq-eqb (length file) 0 e) refl refl
+  is-empty h e =
+      whole false true (eqb (lastByte file) lineFeed) (ltb lineLimit (length (lines file))) (le-ltb fileLimit (length file) h)
+      (eq-eqb (length file) 0 e) refl refl
 
   module _ (short : length file ≤ fileLimit) (some-byte : length file ≡ 0 → ⊥) where
     pub no-line-end : (lastByte file ≡ lineFeed → ⊥) → Reply.refused 12 0 ≡ checkingOf file
     no-line-end n =
-        whole false false false (ltb lineLimit (length (lines file))) (le-ltb fileLimit (length file) short) (ne-eqb (length file) 0 some-byte) (ne-eqb (lastByte file) lineFeed n) refl
+        whole false false false (ltb lineLimit (length (lines file))) (le-ltb fileLimit (length file) short)
+        (ne-eqb (length file) 0 some-byte) (ne-eqb (lastByte file) lineFeed n) refl
 
     pub too-many : lastByte file ≡ lineFeed → lineLimit < length (lines file) → Reply.refused 13 0 ≡ checkingOf file
     too-many e h =
-        whole false false true true (le-ltb fileLimit (length file) short) (ne-eqb (length file) 0 some-byte) (eq-eqb (lastByte file) lineFeed e)
+        whole false false true true (le-ltb fileLimit (length file) short) (ne-eqb (length file) 0 some-byte)
+        (eq-eqb (lastByte file) lineFeed e)
         (lt-ltb lineLimit (length (lines file)) h)
 
     pub line-by-line : lastByte file ≡ lineFeed → length (lines file) ≤ lineLimit → checkLines 0 [] (lines file) ≡ checkingOf file
     line-by-line e h =
-        whole false false true false (le-ltb fileLimit (length file) short) (ne-eqb (length file) 0 some-byte) (eq-eqb (lastByte file) lineFeed e)
+        whole false false true false (le-ltb fileLimit (length file) short) (ne-eqb (length file) 0 some-byte)
+        (eq-eqb (lastByte file) lineFeed e)
         (le-ltb lineLimit (length (lines file)) h)

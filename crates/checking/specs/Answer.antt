@@ -2,7 +2,8 @@
 use Prim.Native.Nat.{ℕ}
 use Rattle.reading.specs.Reply.{Reply}
 use Rattle.checking.specs.declared.Checking.{Checking}
-use Rattle.checking.specs.declared.Checking.the-variants.{FileTooLong, FileEmpty, NoLineEnd, TooManyLines, NotSixFields, Malformed, UnknownRule, BadPremise, NoInstance, Accepted}
+use Rattle.checking.specs.declared.Checking.the-variants.{FileTooLong, FileEmpty, NoLineEnd, TooManyLines, NotSixFields, Malformed}
+use Rattle.checking.specs.declared.Checking.the-variants.{UnknownRule, BadPremise, NoInstance, Accepted}
 
 abbrev pub answerOf : Checking → Reply ℕ
 answerOf FileTooLong = Reply.refused 10 0

@@ -26,7 +26,8 @@ wellFormed own = isSome (contextOf (own .context)) && isSome (termOf (own .term)
 -- the line is an instance of the rule, with the lines that are named for premises; where none is named the end of the file serves
 abbrev pub instanceAt : (file : List ℕ) → Rule → Judged → (first second : Cited) → Bool
 instanceAt file rule own first second =
-    instanceText rule (textsAt own file) (textsAt (judgedAt file (startOr (length file) first)) file) (textsAt (judgedAt file (startOr (length file) second)) file)
+    instanceText rule (textsAt own file) (textsAt (judgedAt file (startOr (length file) first)) file)
+    (textsAt (judgedAt file (startOr (length file) second)) file)
 
 abbrev pub isAnswered : Reply ℕ → Bool
 isAnswered (Reply.refused number line) = false

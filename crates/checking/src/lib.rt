@@ -146,11 +146,13 @@ fn line_count(file: &[u8]) -> usize
     count
 }
 
-// Line by line: the first bad line, or accepted with their number. Of the lines passed it keeps where they begin, and the claim of the last.
+// Line by line: the first bad line, or accepted with their number.
+// Of the lines passed it keeps where they begin, and the claim of the last.
 fn check_lines(file: &[u8]) -> Checked
     requires { ⌜ (lastByte (now file) ≡ lineFeed) × (length (lines (now file)) ≤ lineLimit) ⌝ }
     ensures { λ r. ⌜ answerOf (r .answer) ≡ checkLines 0 [] (lines (now (file .entry))) ⌝ }
-    ensures claim { λ r. ⌜ textsAt (r .claim) (now (file .entry)) ≡ claimTexts (checkLines 0 [] (lines (now (file .entry)))) (now (file .entry)) ⌝ }
+    ensures claim { λ r. ⌜ textsAt (r .claim) (now (file .entry))
+        ≡ claimTexts (checkLines 0 [] (lines (now (file .entry)))) (now (file .entry)) ⌝ }
 {
     let mut starts = [0usize; calculus::LINE_LIMIT];
     let mut n: usize = 0;

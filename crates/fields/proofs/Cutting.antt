@@ -101,7 +101,8 @@ last-field (b ∷ bytes) n = go (eqb b tab) (eqb b lineFeed) refl refl (last-fie
     go false false p q later n = ap fields (first-longer b bytes q) ∙ ap₂ (λ (t : Bool) (ps : List (List ℕ)). cutOr t b ps) p (later n)
 
 -- a line feed ends the line
-pub feed-ends : (bytes : List ℕ) → getD bytes (stopIn bytes) 0 ≡ lineFeed → laterPieces bytes ≡ split lineFeed (drop (suc (stopIn bytes)) bytes)
+pub feed-ends :
+    (bytes : List ℕ) → getD bytes (stopIn bytes) 0 ≡ lineFeed → laterPieces bytes ≡ split lineFeed (drop (suc (stopIn bytes)) bytes)
 feed-ends [] e = absurd (omega arith)
 feed-ends (b ∷ bytes) e = go (eqb b tab) (eqb b lineFeed) refl refl (feed-ends bytes) e
   where
@@ -115,7 +116,8 @@ feed-ends (b ∷ bytes) e = go (eqb b tab) (eqb b lineFeed) refl refl (feed-ends
     go false false p q later e = later-same b bytes q ∙ later e
 
 -- where neither follows, no line ends
-pub nothing-ends : (bytes : List ℕ) → (getD bytes (stopIn bytes) 0 ≡ tab → ⊥) → (getD bytes (stopIn bytes) 0 ≡ lineFeed → ⊥) → laterPieces bytes ≡ []
+pub nothing-ends :
+    (bytes : List ℕ) → (getD bytes (stopIn bytes) 0 ≡ tab → ⊥) → (getD bytes (stopIn bytes) 0 ≡ lineFeed → ⊥) → laterPieces bytes ≡ []
 nothing-ends [] n m = refl
 nothing-ends (b ∷ bytes) n m = go (eqb b tab) (eqb b lineFeed) refl refl (nothing-ends bytes) n m
   where
@@ -160,21 +162,27 @@ module _ (s : List ℕ) (from : ℕ) where
 
   behind-stop : stopAt s from < length s → drop (nextFrom s from) s ≡ drop (suc (stopIn (drop from s))) (drop from s)
   behind-stop h =
-      let behind : nextFrom s from ≡ from + suc (stopIn (drop from s)) = ap (λ (t : Bool). cond t (stopAt s from + 1) (stopAt s from)) (lt-ltb (stopAt s from) (length s) h) ∙ omega arith in
+      let behind : nextFrom s from ≡ from + suc (stopIn (drop from s)) = ap (λ (t : Bool). cond t (stopAt s from + 1) (stopAt s from))
+      (lt-ltb (stopAt s from) (length s) h) ∙ omega arith in
       ap (λ (n : ℕ). drop n s) behind ∙ sym (drop-drop (suc (stopIn (drop from s))) from s)
 
   field-tab :
       isTab s (stopAt s from) ≡ true →
-      (fieldsFrom s from ≡ textFrom s from ∷ fieldsFrom s (nextFrom s from)) × (laterPieces (drop from s) ≡ laterPieces (drop (nextFrom s from) s))
+      (fieldsFrom s from ≡ textFrom s from ∷ fieldsFrom s (nextFrom s from))
+      × (laterPieces (drop from s) ≡ laterPieces (drop (nextFrom s from) s))
   field-tab e =
       let here-tab : getD s (stopAt s from) 0 ≡ tab = eqb-true (getD s (stopAt s from) 0) tab e in
       let (first, others) = tab-field (drop from s) (sym byte-at-stop ∙ here-tab) in
-      let behind = behind-stop (in-file tab (omega arith) here-tab) in
-      (first ∙ ap₂ (λ (t : List ℕ) (l : List ℕ). t ∷ fields (firstLine l)) (sym text-taken) (sym behind), others ∙ ap laterPieces (sym behind))
+      let behind = behind-stop (in-file tab (omega arith) here-tab) in (
+        first ∙ ap₂ (λ (t : List ℕ) (l : List ℕ). t ∷ fields (firstLine l)) (sym text-taken) (sym behind),
+        others
+            ∙ ap laterPieces (sym behind),
+      )
 
   field-last : isTab s (stopAt s from) ≡ false → fieldsFrom s from ≡ textFrom s from ∷ []
   field-last e =
-      last-field (drop from s) (λ q. eqb-false (getD s (stopAt s from) 0) tab e (byte-at-stop ∙ q)) ∙ ap (λ (t : List ℕ). t ∷ []) (sym text-taken)
+      last-field (drop from s) (λ q. eqb-false (getD s (stopAt s from) 0) tab e (byte-at-stop ∙ q))
+      ∙ ap (λ (t : List ℕ). t ∷ []) (sym text-taken)
 
   -- the field that ends a line that ends
   field-feed :
@@ -182,12 +190,17 @@ module _ (s : List ℕ) (from : ℕ) where
       (stopAt s from < length s) × (laterPieces (drop from s) ≡ split lineFeed (drop (stopAt s from + 1) s))
   field-feed e ends = go (eqb (getD s (stopAt s from) 0) lineFeed) refl
     where
-      go : (t : Bool) → eqb (getD s (stopAt s from) 0) lineFeed ≡ t → (stopAt s from < length s) × (laterPieces (drop from s) ≡ split lineFeed (drop (stopAt s from + 1) s))
+      go :
+          (t : Bool) → eqb (getD s (stopAt s from) 0) lineFeed ≡ t →
+          (stopAt s from < length s) × (laterPieces (drop from s) ≡ split lineFeed (drop (stopAt s from + 1) s))
       go true q =
           let here-feed : getD s (stopAt s from) 0 ≡ lineFeed = eqb-true (getD s (stopAt s from) 0) lineFeed q in
           let within = in-file lineFeed (omega arith) here-feed in
-          let behind : from + suc (stopIn (drop from s)) ≡ stopAt s from + 1 = omega arith in
-          (within, feed-ends (drop from s) (sym byte-at-stop ∙ here-feed) ∙ ap (split lineFeed) (drop-drop (suc (stopIn (drop from s))) from s ∙ ap (λ (n : ℕ). drop n s) behind))
+          let behind : from + suc (stopIn (drop from s)) ≡ stopAt s from + 1 = omega arith in (
+            within,
+            feed-ends (drop from s) (sym byte-at-stop ∙ here-feed)
+                ∙ ap (split lineFeed) (drop-drop (suc (stopIn (drop from s))) from s ∙ ap (λ (n : ℕ). drop n s) behind),
+          )
       go false q =
           absurd (ends (nothing-ends (drop from s)
           (λ r. eqb-false (getD s (stopAt s from) 0) tab e (byte-at-stop ∙ r))
@@ -221,28 +234,35 @@ module _ (s : List ℕ) (at : ℕ) where
   one-tab : tabAt s at ≡ true → fieldsFrom s at ≡ textFrom s at ∷ fieldsFrom s (second s at)
   one-tab p = field-tab s at p .0
 
-  two-tabs : tabAt s at ≡ true → tabAt s (second s at) ≡ true → fieldsFrom s at ≡ textFrom s at ∷ textFrom s (second s at) ∷ fieldsFrom s (third s at)
+  two-tabs :
+      tabAt s at ≡ true → tabAt s (second s at) ≡ true →
+      fieldsFrom s at ≡ textFrom s at ∷ textFrom s (second s at) ∷ fieldsFrom s (third s at)
   two-tabs p q = one-tab p ∙ ap (Cons (textFrom s at)) (field-tab s (second s at) q .0)
 
   three-tabs :
       tabAt s at ≡ true → tabAt s (second s at) ≡ true → tabAt s (third s at) ≡ true →
       fieldsFrom s at ≡ textFrom s at ∷ textFrom s (second s at) ∷ textFrom s (third s at) ∷ fieldsFrom s (fourth s at)
-  three-tabs p q r = two-tabs p q ∙ ap (λ (ts : List (List ℕ)). textFrom s at ∷ textFrom s (second s at) ∷ ts) (field-tab s (third s at) r .0)
+  three-tabs p q r =
+      two-tabs p q ∙ ap (λ (ts : List (List ℕ)). textFrom s at ∷ textFrom s (second s at) ∷ ts) (field-tab s (third s at) r .0)
 
   four-tabs :
       tabAt s at ≡ true → tabAt s (second s at) ≡ true → tabAt s (third s at) ≡ true → tabAt s (fourth s at) ≡ true →
-      fieldsFrom s at ≡ textFrom s at ∷ textFrom s (second s at) ∷ textFrom s (third s at) ∷ textFrom s (fourth s at) ∷ fieldsFrom s (fifth s at)
+      fieldsFrom s at ≡ textFrom s at ∷ textFrom s (second s at) ∷ textFrom s (third s at) ∷ textFrom s (fourth s at) ∷ fieldsFrom s
+      (fifth s at)
   four-tabs p q r t =
       three-tabs p q r ∙
       ap (λ (ts : List (List ℕ)). textFrom s at ∷ textFrom s (second s at) ∷ textFrom s (third s at) ∷ ts) (field-tab s (fourth s at) t .0)
 
   five-tabs :
-      tabAt s at ≡ true → tabAt s (second s at) ≡ true → tabAt s (third s at) ≡ true → tabAt s (fourth s at) ≡ true → tabAt s (fifth s at) ≡ true →
+      tabAt s at ≡ true → tabAt s (second s at) ≡ true → tabAt s (third s at) ≡ true → tabAt s (fourth s at) ≡ true →
+      tabAt s (fifth s at) ≡ true →
       fieldsFrom s at
-      ≡ textFrom s at ∷ textFrom s (second s at) ∷ textFrom s (third s at) ∷ textFrom s (fourth s at) ∷ textFrom s (fifth s at) ∷ fieldsFrom s (sixth s at)
+      ≡ textFrom s at ∷ textFrom s (second s at) ∷ textFrom s (third s at) ∷ textFrom s (fourth s at) ∷ textFrom s (fifth s at) ∷ fieldsFrom
+      s (sixth s at)
   five-tabs p q r t u =
       four-tabs p q r t ∙
-      ap (λ (ts : List (List ℕ)). textFrom s at ∷ textFrom s (second s at) ∷ textFrom s (third s at) ∷ textFrom s (fourth s at) ∷ ts) (field-tab s (fifth s at) u .0)
+      ap (λ (ts : List (List ℕ)). textFrom s at ∷ textFrom s (second s at) ∷ textFrom s (third s at) ∷ textFrom s (fourth s at) ∷ ts)
+      (field-tab s (fifth s at) u .0)
 
   -- the line of six fields
   pub six-found :
@@ -253,23 +273,29 @@ module _ (s : List ℕ) (at : ℕ) where
       × (isTab s (sixAt s at .second .to) ≡ false) × (laterPieces (drop at s) ≡ laterPieces (drop (sixAt s at .second .from) s))
   unfolding sixAt judgedAt
   six-found e =
-      let (first-five, f) = and-both (tabAt s at && tabAt s (second s at) && tabAt s (third s at) && tabAt s (fourth s at) && tabAt s (fifth s at)) (not (tabAt s (sixth s at))) e in
-      let (first-four, u) = and-both (tabAt s at && tabAt s (second s at) && tabAt s (third s at) && tabAt s (fourth s at)) (tabAt s (fifth s at)) first-five in
+      let (first-five, f) = and-both
+      (tabAt s at && tabAt s (second s at) && tabAt s (third s at) && tabAt s (fourth s at) && tabAt s (fifth s at))
+      (not (tabAt s (sixth s at))) e in
+      let (first-four, u) = and-both (tabAt s at && tabAt s (second s at) && tabAt s (third s at) && tabAt s (fourth s at))
+      (tabAt s (fifth s at)) first-five in
       let (first-three, t) = and-both (tabAt s at && tabAt s (second s at) && tabAt s (third s at)) (tabAt s (fourth s at)) first-four in
       let (first-two, r) = and-both (tabAt s at && tabAt s (second s at)) (tabAt s (third s at)) first-three in
       let (p, q) = and-both (tabAt s at) (tabAt s (second s at)) first-two in
       let last : tabAt s (sixth s at) ≡ false = not-true (tabAt s (sixth s at)) f in (
         five-tabs p q r t u ∙
-            ap (λ (ts : List (List ℕ)). textFrom s at ∷ textFrom s (second s at) ∷ textFrom s (third s at) ∷ textFrom s (fourth s at) ∷ textFrom s (fifth s at) ∷ ts) (field-last s (sixth s at) last),
+            ap (λ (ts : List (List ℕ)). textFrom s at ∷ textFrom s (second s at) ∷ textFrom s (third s at) ∷ textFrom s
+            (fourth s at) ∷ textFrom s (fifth s at) ∷ ts) (field-last s (sixth s at) last),
         last,
-        field-tab s at p .1 ∙ field-tab s (second s at) q .1 ∙ field-tab s (third s at) r .1 ∙ field-tab s (fourth s at) t .1 ∙ field-tab s (fifth s at) u .1,
+        field-tab s at p .1 ∙ field-tab s (second s at) q .1 ∙ field-tab s (third s at) r .1 ∙ field-tab s (fourth s at) t .1
+            ∙ field-tab s (fifth s at) u .1,
       )
 
   -- a line of fewer fields, or of more
   pub six-missed : hasSix s (sixAt s at) ≡ false → length (fields (firstLine (drop at s))) ≡ 6 → ⊥
   unfolding sixAt judgedAt
   six-missed =
-      go (tabAt s at) (tabAt s (second s at)) (tabAt s (third s at)) (tabAt s (fourth s at)) (tabAt s (fifth s at)) (tabAt s (sixth s at)) refl refl refl refl refl refl
+      go (tabAt s at) (tabAt s (second s at)) (tabAt s (third s at)) (tabAt s (fourth s at)) (tabAt s (fifth s at)) (tabAt s (sixth s at))
+      refl refl refl refl refl refl
     where
       go :
           (a b c d e f : Bool) → tabAt s at ≡ a → tabAt s (second s at) ≡ b → tabAt s (third s at) ≡ c → tabAt s (fourth s at) ≡ d →

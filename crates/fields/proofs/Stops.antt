@@ -18,7 +18,9 @@ use Rattle.fields.specs.Fields.{stopIn, stopAt, behindIn, fieldAt, judge
 -- ---- one turn of `stop_from`
 
 -- the byte at a place
-at-byte : (at : ℕ) (s : List ℕ) → at < length s → stopIn (drop at s) ≡ cond (eqb (getD s at 0) tab || eqb (getD s at 0) lineFeed) 0 (suc (stopIn (drop (suc at) s)))
+at-byte :
+    (at : ℕ) (s : List ℕ) → at < length s →
+    stopIn (drop at s) ≡ cond (eqb (getD s at 0) tab || eqb (getD s at 0) lineFeed) 0 (suc (stopIn (drop (suc at) s)))
 at-byte at s h = ap stopIn (drop-cons s at 0 h)
 
 pub at-tab : (at : ℕ) (s : List ℕ) → at < length s → getD s at 0 ≡ tab → at ≡ stopAt s at
@@ -26,13 +28,15 @@ at-tab at s h e = let here : stopIn (drop at s) ≡ 0 = at-byte at s h ∙ rw (e
 
 pub at-feed : (at : ℕ) (s : List ℕ) → at < length s → getD s at 0 ≡ lineFeed → at ≡ stopAt s at
 at-feed at s h e =
-    let here : stopIn (drop at s) ≡ 0 = at-byte at s h ∙ ap (λ (b : ℕ). cond (eqb b tab || eqb b lineFeed) 0 (suc (stopIn (drop (suc at) s)))) e in
+    let here : stopIn (drop at s) ≡ 0 = at-byte at s h
+    ∙ ap (λ (b : ℕ). cond (eqb b tab || eqb b lineFeed) 0 (suc (stopIn (drop (suc at) s)))) e in
     omega arith
 
 pub at-other :
     (at : ℕ) (s : List ℕ) → at < length s → (getD s at 0 ≡ tab → ⊥) → (getD s at 0 ≡ lineFeed → ⊥) → stopAt s (at + 1) ≡ stopAt s at
 at-other at s h n m =
-    let here : stopIn (drop at s) ≡ suc (stopIn (drop (suc at) s)) = at-byte at s h ∙ rw (ne-eqb (getD s at 0) tab n, ne-eqb (getD s at 0) lineFeed m) in
+    let here : stopIn (drop at s) ≡ suc (stopIn (drop (suc at) s)) = at-byte at s h
+    ∙ rw (ne-eqb (getD s at 0) tab n, ne-eqb (getD s at 0) lineFeed m) in
     let there : stopIn (drop (at + 1) s) ≡ stopIn (drop (suc at) s) = ap (λ (k : ℕ). stopIn (drop k s)) (add-one at) in
     omega arith
 
@@ -53,7 +57,9 @@ behind-end at s h = rw (le-ltb at (length s) h)
 abbrev pub nextField : List ℕ → Span → Span
 nextField s field = fieldAt s (behindIn s (field .to))
 
-next-field : (s : List ℕ) (field field′ next : Span) (at : ℕ) → field ≡ field′ → at ≡ behindIn s (field .to) → next ≡ fieldAt s at → next ≡ nextField s field′
+next-field :
+    (s : List ℕ) (field field′ next : Span) (at : ℕ) → field ≡ field′ → at ≡ behindIn s (field .to) → next ≡ fieldAt s at →
+    next ≡ nextField s field′
 next-field s field field′ next at e p q = q ∙ ap (fieldAt s) p ∙ ap (nextField s) e
 
 pub three-fields :
@@ -76,5 +82,6 @@ six-fields s from own rule first second l m n e p q r t u v =
     let type′ = judgedAt s from .ty in
     let fourth : rule ≡ nextField s type′ = next-field s (own .ty) type′ rule l (ap (λ (j : Judged). j .ty) e) p q in
     let fifth : first ≡ nextField s (nextField s type′) = next-field s rule (nextField s type′) first m fourth r t in
-    let sixth : second ≡ nextField s (nextField s (nextField s type′)) = next-field s first (nextField s (nextField s type′)) second n fifth u v in
+    let sixth : second ≡ nextField s (nextField s (nextField s type′)) = next-field s first (nextField s (nextField s type′)) second n fifth
+    u v in
     λ i. record { own = e i; rule = fourth i; first = fifth i; second = sixth i }

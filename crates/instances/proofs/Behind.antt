@@ -25,7 +25,8 @@ module _ (file bytes : List ℕ) (from to end : ℕ) (cut : bytes ≡ part from 
   pub behind-none : length bytes < end → [] ≡ simpleBehind (part from to file)
   unfolding simpleBehind
   behind-none h =
-      ap (λ (t : Bool). cond t (part 1 (simpleEnd bytes 1) bytes) []) (sym (lt-leb (simpleEnd bytes 1) (length bytes) (omega (arith, found))))
+      ap (λ (t : Bool). cond t (part 1 (simpleEnd bytes 1) bytes) [])
+      (sym (lt-leb (simpleEnd bytes 1) (length bytes) (omega (arith, found))))
       ∙ ap simpleBehind cut
 
   pub behind-room : end ≤ length bytes → (from + 1 ≤ length file) × (from + end ≤ length file) × (from + end ≤ to)
@@ -40,7 +41,8 @@ module _ (file bytes : List ℕ) (from to end : ℕ) (cut : bytes ≡ part from 
   behind-some h =
       sym (part-part 1 end from to file (behind-room h .2))
       ∙ ap₂ (λ (n : ℕ) (s : List ℕ). part 1 n s) found (sym cut)
-      ∙ ap (λ (t : Bool). cond t (part 1 (simpleEnd bytes 1) bytes) []) (sym (le-leb (simpleEnd bytes 1) (length bytes) (omega (arith, found))))
+      ∙ ap (λ (t : Bool). cond t (part 1 (simpleEnd bytes 1) bytes) [])
+      (sym (le-leb (simpleEnd bytes 1) (length bytes) (omega (arith, found))))
       ∙ ap simpleBehind cut
 
 -- the simple type behind a byte is the one whose text stands there
@@ -51,6 +53,7 @@ behind-text b U rest =
     let fits : 1 + length (simpleText U) ≤ length (b ∷ (simpleText U ++ rest)) = omega (arith, length-append (simpleText U) rest) in
     let size : 1 + length (simpleText U) - 1 ≡ length (simpleText U) = omega arith in
     ap (λ (n : ℕ). cond (leb n (length (b ∷ (simpleText U ++ rest)))) (part 1 n (b ∷ (simpleText U ++ rest))) []) end
-    ∙ ap (λ (t : Bool). cond t (part 1 (1 + length (simpleText U)) (b ∷ (simpleText U ++ rest))) []) (le-leb (1 + length (simpleText U)) (length (b ∷ (simpleText U ++ rest))) fits)
+    ∙ ap (λ (t : Bool). cond t (part 1 (1 + length (simpleText U)) (b ∷ (simpleText U ++ rest))) [])
+    (le-leb (1 + length (simpleText U)) (length (b ∷ (simpleText U ++ rest))) fits)
     ∙ ap (λ (n : ℕ). take n (simpleText U ++ rest)) size
     ∙ take-append-seam (simpleText U) rest

@@ -18,13 +18,15 @@ use Rattle.types.specs.Tests.{isSimple}
 use Rattle.types.specs.Scan.{simpleEnd}
 use Rattle.types.proofs.Parse.{typeOf-text, types-readable, ty-injective, simple-not-context}
 use Rattle.types.proofs.Made.{arrow-text, bind-text}
-use Rattle.derivation_files.specs.Instance.{Premises, sameSimple, sameContext, sameTy, asksJ, asksR, asksH, asksA, asksI, asksB, asksS, isInstance}
+use Rattle.derivation_files.specs.Instance.{Premises, sameSimple, sameContext, sameTy, asksJ, asksR, asksH, asksA, asksI, asksB, asksS}
+use Rattle.derivation_files.specs.Instance.{isInstance}
 use Rattle.derivation_files.specs.Checking.{premiseCount}
 use Rattle.rules.specs.Rules.{ruleOf}
 use Rattle.rules.specs.declared.Rule.{Rule}
 use Rattle.instances.specs.Behind.{simpleBehind}
 use Rattle.fields.specs.Fields.{Texts}
-use Rattle.instances.specs.TextInstance.{typeText, asksText, asksTextJ, asksTextR, asksTextH, asksTextA, asksTextI, asksTextB, asksTextS, instanceText}
+use Rattle.instances.specs.TextInstance.{typeText, asksText, asksTextJ, asksTextR, asksTextH, asksTextA, asksTextI, asksTextB}
+use Rattle.instances.specs.TextInstance.{asksTextS, instanceText}
 use Rattle.slices.proofs.Decimal.{and-both}
 use Rattle.fields.proofs.Joined.{differ}
 use Rattle.instances.proofs.Behind.{behind-text}
@@ -74,7 +76,8 @@ third-fails a b c e = ap (λ (x : Bool). (a && b) && x) e ∙ and-false (a && b)
 -- two types that stand together are the same as two others where each is
 same-both : (W X Y Z : Ty) → same (tyText W ++ tyText X) (tyText Y ++ tyText Z) ≡ (same (tyText Y) (tyText W) && same (tyText Z) (tyText X))
 same-both W X Y Z =
-    sym (same-unique (same (tyText Y) (tyText W) && same (tyText Z) (tyText X)) (tyText W ++ tyText X) (tyText Y ++ tyText Z) apart together)
+    sym (same-unique (same (tyText Y) (tyText W) && same (tyText Z) (tyText X)) (tyText W ++ tyText X) (tyText Y ++ tyText Z) apart
+    together)
   where
     apart : (same (tyText Y) (tyText W) && same (tyText Z) (tyText X)) ≡ true → tyText W ++ tyText X ≡ tyText Y ++ tyText Z
     apart e =
@@ -139,10 +142,14 @@ asks-J : (G : Context) (t : Term) (W : Ty) → asksTextJ (textsOf (Judgement.jud
 unfolding simpleBehind simpleEnd
 asks-J Context.empty t W = some-byte W
 asks-J (Context.bind U D) t (Ty.context E) = ap (λ (s : List ℕ). same s (contextText E)) (behind-bind U D) ∙ simple-no-context U E
-asks-J (Context.bind U D) t (Ty.simple T) = ap (λ (s : List ℕ). same s (simpleText T)) (behind-bind U D) ∙ same-sym (simpleText U) (simpleText T)
+asks-J (Context.bind U D) t (Ty.simple T) =
+    ap (λ (s : List ℕ). same s (simpleText T)) (behind-bind U D) ∙ same-sym (simpleText U) (simpleText T)
 
 -- the rest of a context that is `*` T E is the premise's D
-rest-context : (T : Simple) (E D : Context) → same (contextText (Context.bind T E)) (typeText Sign.bind (simpleBehind (contextText (Context.bind T E))) (contextText D)) ≡ sameContext D E
+rest-context :
+    (T : Simple) (E D : Context) →
+    same (contextText (Context.bind T E)) (typeText Sign.bind (simpleBehind (contextText (Context.bind T E))) (contextText D)) ≡ sameContext
+    D E
 rest-context T E D =
     ap₂ (λ (s u : List ℕ). same s (typeText Sign.bind u (contextText D))) (bind-text T E) (behind-bind T E) ∙
     same-front (simpleText T) (contextText E) (contextText D) ∙ same-sym (contextText E) (contextText D)
@@ -150,7 +157,8 @@ rest-context T E D =
 asks-R : (i : Judgement) (G : Context) (t : Term) (W : Ty) → asksTextR (textsOf (Judgement.judge G t W)) (textsOf i) ≡ asksR i G W
 asks-R (Judgement.judge D u X) Context.empty t W = refl
 asks-R (Judgement.judge D u X) (Context.bind T E) t (Ty.context F) =
-    second-fails (same (contextText (Context.bind T E)) (typeText Sign.bind (simpleBehind (contextText (Context.bind T E))) (contextText D)))
+    second-fails
+    (same (contextText (Context.bind T E)) (typeText Sign.bind (simpleBehind (contextText (Context.bind T E))) (contextText D)))
     (isSimple (typeOf (contextText F))) (same (tyText X) (contextText F)) (ap isSimple (typeOf-text (Ty.context F)))
 asks-R (Judgement.judge D u (Ty.context F)) (Context.bind T E) t (Ty.simple U) =
     third-fails (same (contextText (Context.bind T E)) (typeText Sign.bind (simpleBehind (contextText (Context.bind T E))) (contextText D)))
@@ -159,11 +167,15 @@ asks-R (Judgement.judge D u (Ty.simple U)) (Context.bind T E) t (Ty.simple X) =
     ap₂ (λ (a b : Bool). (a && b) && same (simpleText U) (simpleText X)) (rest-context T E D) (ap isSimple (typeOf-text (Ty.simple X))) ∙
     ap (λ (a : Bool). a && same (simpleText U) (simpleText X)) (and-true (sameContext D E))
 
-asks-H : (i k : Judgement) (G : Context) (t : Term) (W : Ty) → asksTextH (textsOf (Judgement.judge G t W)) (textsOf i) (textsOf k) ≡ asksH i k G W
+asks-H :
+    (i k : Judgement) (G : Context) (t : Term) (W : Ty) →
+    asksTextH (textsOf (Judgement.judge G t W)) (textsOf i) (textsOf k) ≡ asksH i k G W
 asks-H (Judgement.judge D s (Ty.context F)) (Judgement.judge E u X) G t W =
-    third-fails (sameContext D G) (sameContext E G) (same (contextText F) (typeText Sign.arrow (tyText X) (tyText W))) (no-arrow-context F (tyText X ++ tyText W))
+    third-fails (sameContext D G) (sameContext E G) (same (contextText F) (typeText Sign.arrow (tyText X) (tyText W)))
+    (no-arrow-context F (tyText X ++ tyText W))
 asks-H (Judgement.judge D s (Ty.simple (Simple.atom a))) (Judgement.judge E u X) G t W =
-    third-fails (sameContext D G) (sameContext E G) (same (simpleText (Simple.atom a)) (typeText Sign.arrow (tyText X) (tyText W))) (no-arrow-atom a (tyText X ++ tyText W))
+    third-fails (sameContext D G) (sameContext E G) (same (simpleText (Simple.atom a)) (typeText Sign.arrow (tyText X) (tyText W)))
+    (no-arrow-atom a (tyText X ++ tyText W))
 asks-H (Judgement.judge D s (Ty.simple (Simple.arrow U T))) (Judgement.judge E u X) G t W =
     ap (λ (b : Bool). (sameContext D G && sameContext E G) && b)
     (ap (λ (s : List ℕ). same s (typeText Sign.arrow (tyText X) (tyText W))) (arrow-text U T) ∙ same-both (Ty.simple U) (Ty.simple T) X W) ∙
@@ -177,32 +189,42 @@ atom-fails : (x : Atom) (s : List ℕ) (a c : Bool) → ((a && same (simpleText 
 atom-fails x s a c = second-fails a (same (simpleText (Simple.atom x)) (signText Sign.arrow ++ s)) c (no-arrow-atom x s)
 
 -- the second premise's type is what the arrow leads to
-result-type : (U T : Simple) (X : Ty) → same (simpleText (Simple.arrow U T)) (typeText Sign.arrow (simpleBehind (simpleText (Simple.arrow U T))) (tyText X)) ≡ sameTy X (Ty.simple T)
+result-type :
+    (U T : Simple) (X : Ty) →
+    same (simpleText (Simple.arrow U T)) (typeText Sign.arrow (simpleBehind (simpleText (Simple.arrow U T))) (tyText X)) ≡ sameTy X
+    (Ty.simple T)
 result-type U T X =
     ap₂ (λ (s u : List ℕ). same s (typeText Sign.arrow u (tyText X))) (arrow-text U T) (behind-arrow U T) ∙
     same-front (simpleText U) (simpleText T) (tyText X) ∙ same-sym (simpleText T) (tyText X)
 
-asks-A : (i k : Judgement) (G : Context) (t : Term) (W : Ty) → asksTextA (textsOf (Judgement.judge G t W)) (textsOf i) (textsOf k) ≡ asksA i k G W
+asks-A :
+    (i k : Judgement) (G : Context) (t : Term) (W : Ty) →
+    asksTextA (textsOf (Judgement.judge G t W)) (textsOf i) (textsOf k) ≡ asksA i k G W
 asks-A (Judgement.judge D s (Ty.simple Y)) (Judgement.judge E u X) G t (Ty.context H) =
-    context-fails H (simpleBehind (contextText H) ++ tyText X) (sameContext D G) (same (contextText E) (typeText Sign.bind (simpleBehind (contextText H)) (simpleText Y)))
+    context-fails H (simpleBehind (contextText H) ++ tyText X) (sameContext D G)
+    (same (contextText E) (typeText Sign.bind (simpleBehind (contextText H)) (simpleText Y)))
 asks-A (Judgement.judge D s (Ty.simple Y)) (Judgement.judge E u X) G t (Ty.simple (Simple.atom a)) =
     atom-fails a (simpleBehind (simpleText (Simple.atom a)) ++ tyText X) (sameContext D G)
     (same (contextText E) (typeText Sign.bind (simpleBehind (simpleText (Simple.atom a))) (simpleText Y)))
 asks-A (Judgement.judge D s (Ty.simple Y)) (Judgement.judge E u X) G t (Ty.simple (Simple.arrow U T)) =
-    third-fails (sameContext D G) (same (simpleText (Simple.arrow U T)) (typeText Sign.arrow (simpleBehind (simpleText (Simple.arrow U T))) (tyText X)))
+    third-fails (sameContext D G)
+    (same (simpleText (Simple.arrow U T)) (typeText Sign.arrow (simpleBehind (simpleText (Simple.arrow U T))) (tyText X)))
     (same (contextText E) (typeText Sign.bind (simpleBehind (simpleText (Simple.arrow U T))) (simpleText Y)))
-    (ap (λ (v : List ℕ). same (contextText E) (typeText Sign.bind v (simpleText Y))) (behind-arrow U T) ∙ no-bind E (Ty.simple U) (Ty.simple Y) never)
+    (ap (λ (v : List ℕ). same (contextText E) (typeText Sign.bind v (simpleText Y))) (behind-arrow U T)
+    ∙ no-bind E (Ty.simple U) (Ty.simple Y) never)
   where
     never : (Z : Simple) (C : Context) → Ty.simple U ≡ Ty.simple Z → Ty.simple Y ≡ Ty.context C → ⊥
     never Z C p q = let z : _≡_ {A = ℕ} 0 1 = cc in omega arith
 asks-A (Judgement.judge D s (Ty.context F)) (Judgement.judge E u X) G t (Ty.context H) =
-    context-fails H (simpleBehind (contextText H) ++ tyText X) (sameContext D G) (same (contextText E) (typeText Sign.bind (simpleBehind (contextText H)) (contextText F)))
+    context-fails H (simpleBehind (contextText H) ++ tyText X) (sameContext D G)
+    (same (contextText E) (typeText Sign.bind (simpleBehind (contextText H)) (contextText F)))
 asks-A (Judgement.judge D s (Ty.context F)) (Judgement.judge E u X) G t (Ty.simple (Simple.atom a)) =
     atom-fails a (simpleBehind (simpleText (Simple.atom a)) ++ tyText X) (sameContext D G)
     (same (contextText E) (typeText Sign.bind (simpleBehind (simpleText (Simple.atom a))) (contextText F)))
 asks-A (Judgement.judge D s (Ty.context F)) (Judgement.judge E u X) G t (Ty.simple (Simple.arrow U T)) =
     ap₂ (λ (b c : Bool). (sameContext D G && b) && c) (result-type U T X)
-    (ap (λ (v : List ℕ). same (contextText E) (typeText Sign.bind v (contextText F))) (behind-arrow U T) ∙ ap (same (contextText E)) (sym (bind-text U F))) ∙
+    (ap (λ (v : List ℕ). same (contextText E) (typeText Sign.bind v (contextText F))) (behind-arrow U T)
+    ∙ ap (same (contextText E)) (sym (bind-text U F))) ∙
     and-swap (sameContext D G) (sameTy X (Ty.simple T)) (sameContext E (Context.bind U F))
 
 -- a type that is `*` and two types is `*` with a simple type and a context
@@ -212,21 +234,27 @@ no-bind-type :
 no-bind-type (Ty.simple U) X Y never = no-bind-simple U (tyText X ++ tyText Y)
 no-bind-type (Ty.context G) X Y never = no-bind G X Y never
 
-asks-B : (i k : Judgement) (G : Context) (t : Term) (W : Ty) → asksTextB (textsOf (Judgement.judge G t W)) (textsOf i) (textsOf k) ≡ asksB i k G W
+asks-B :
+    (i k : Judgement) (G : Context) (t : Term) (W : Ty) →
+    asksTextB (textsOf (Judgement.judge G t W)) (textsOf i) (textsOf k) ≡ asksB i k G W
 asks-B (Judgement.judge D u (Ty.context F)) (Judgement.judge E s X) G t W =
-    third-fails (sameContext D G) (sameContext E G) (same (tyText W) (typeText Sign.bind (contextText F) (tyText X))) (no-bind-type W (Ty.context F) X never)
+    third-fails (sameContext D G) (sameContext E G) (same (tyText W) (typeText Sign.bind (contextText F) (tyText X)))
+    (no-bind-type W (Ty.context F) X never)
   where
     never : (Z : Simple) (C : Context) → Ty.context F ≡ Ty.simple Z → X ≡ Ty.context C → ⊥
     never Z C p q = let z : _≡_ {A = ℕ} 0 1 = cc in omega arith
 asks-B (Judgement.judge D u (Ty.simple U)) (Judgement.judge E s (Ty.simple T)) G t W =
-    third-fails (sameContext D G) (sameContext E G) (same (tyText W) (typeText Sign.bind (simpleText U) (simpleText T))) (no-bind-type W (Ty.simple U) (Ty.simple T) never)
+    third-fails (sameContext D G) (sameContext E G) (same (tyText W) (typeText Sign.bind (simpleText U) (simpleText T)))
+    (no-bind-type W (Ty.simple U) (Ty.simple T) never)
   where
     never : (Z : Simple) (C : Context) → Ty.simple U ≡ Ty.simple Z → Ty.simple T ≡ Ty.context C → ⊥
     never Z C p q = let z : _≡_ {A = ℕ} 0 1 = cc in omega arith
 asks-B (Judgement.judge D u (Ty.simple U)) (Judgement.judge E s (Ty.context F)) G t W =
     ap (λ (w : List ℕ). (sameContext D G && sameContext E G) && same (tyText W) w) (sym (bind-text U F))
 
-asks-S : (i k : Judgement) (G : Context) (t : Term) (W : Ty) → asksTextS (textsOf (Judgement.judge G t W)) (textsOf i) (textsOf k) ≡ asksS i k G W
+asks-S :
+    (i k : Judgement) (G : Context) (t : Term) (W : Ty) →
+    asksTextS (textsOf (Judgement.judge G t W)) (textsOf i) (textsOf k) ≡ asksS i k G W
 asks-S (Judgement.judge D s (Ty.simple U)) (Judgement.judge E u X) G t W =
     second-fails (sameContext D G) (same (contextText E) (simpleText U)) (same (tyText X) (tyText W)) (context-no-simple E U)
 asks-S (Judgement.judge D s (Ty.context F)) (Judgement.judge E u X) G t W = refl
@@ -251,7 +279,8 @@ pub instance-one :
     (name : Name) (j i : Judgement) (y : Texts) → premiseCount name ≡ 1 →
     instanceText (ruleOf (some name)) (textsOf j) (textsOf i) y ≡ isInstance name (Premises.one i) j
 instance-one Name.J j i y e = absurd (omega arith)
-instance-one Name.R (Judgement.judge G t W) (Judgement.judge D u X) y e = ap (λ (b : Bool). b && same (text t) (text (Term.R u))) (asks-R (Judgement.judge D u X) G t W)
+instance-one Name.R (Judgement.judge G t W) (Judgement.judge D u X) y e =
+    ap (λ (b : Bool). b && same (text t) (text (Term.R u))) (asks-R (Judgement.judge D u X) G t W)
 instance-one Name.H j i y e = absurd (omega arith)
 instance-one Name.A j i y e = absurd (omega arith)
 instance-one Name.f j i y e = absurd (omega arith)
@@ -278,5 +307,7 @@ instance-two Name.s (Judgement.judge G t W) (Judgement.judge D u X) (Judgement.j
     ap (λ (b : Bool). b && same (text t) (text (Term.app u v))) (asks-S (Judgement.judge D u X) (Judgement.judge E v Y) G t W)
 
 -- a test by the rule that is given
-pub asks-by : (rule given : Rule) (own first second : Texts) (r : Bool) → rule ≡ given → r ≡ asksText given own first second → r ≡ asksText rule own first second
+pub asks-by :
+    (rule given : Rule) (own first second : Texts) (r : Bool) → rule ≡ given → r ≡ asksText given own first second →
+    r ≡ asksText rule own first second
 asks-by rule given own first second r e made = made ∙ sym (ap (λ (x : Rule). asksText x own first second) e)

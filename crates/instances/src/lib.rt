@@ -11,18 +11,21 @@ ghost use mathlib.Core.Path.{_≡_};
 ghost use Rattle.fields.specs.Texts.{textAt};
 ghost use Rattle.fields.specs.Fields.{textsAt};
 ghost use Rattle.instances.specs.Behind.{simpleBehind};
-ghost use Rattle.instances.specs.TextInstance.{asksTextJ, asksTextR, asksTextH, asksTextA, asksTextI, asksTextB, asksTextS, asksText, instanceText};
+ghost use Rattle.instances.specs.TextInstance.{asksTextJ, asksTextR, asksTextH, asksTextA};
+ghost use Rattle.instances.specs.TextInstance.{asksTextI, asksTextB, asksTextS, asksText, instanceText};
 
 // Whether a line is an instance of the rule, with those lines for premises; a premise that the rule has not is passed over.
 pub fn is_instance(file: &[u8], rule: Rule, own: Judged, first: Judged, second: Judged) -> bool
-    ensures { λ r. ⌜ r ≡ instanceText rule (textsAt own (now (file .entry))) (textsAt first (now (file .entry))) (textsAt second (now (file .entry))) ⌝ }
+    ensures { λ r. ⌜ r ≡ instanceText rule (textsAt own (now (file .entry))) (textsAt first (now (file .entry)))
+        (textsAt second (now (file .entry))) ⌝ }
 {
     asks(file, rule, own, first, second) && builds(file, rule, own.term, first.term, second.term)
 }
 
 // What the rule asks of contexts and types.
 fn asks(file: &[u8], rule: Rule, own: Judged, first: Judged, second: Judged) -> bool
-    ensures { λ r. ⌜ r ≡ asksText rule (textsAt own (now (file .entry))) (textsAt first (now (file .entry))) (textsAt second (now (file .entry))) ⌝ }
+    ensures { λ r. ⌜ r ≡ asksText rule (textsAt own (now (file .entry))) (textsAt first (now (file .entry)))
+        (textsAt second (now (file .entry))) ⌝ }
 {
     match rule {
         Rule::J => asks_j(file, own),
@@ -61,7 +64,8 @@ fn asks_r(file: &[u8], own: Judged, first: Judged) -> bool
 
 // Rules H and f: in one context the premises have `>` U T and U; the type is T.
 fn asks_h(file: &[u8], own: Judged, first: Judged, second: Judged) -> bool
-    ensures { λ r. ⌜ r ≡ asksTextH (textsAt own (now (file .entry))) (textsAt first (now (file .entry))) (textsAt second (now (file .entry))) ⌝ }
+    ensures { λ r. ⌜ r ≡ asksTextH (textsAt own (now (file .entry))) (textsAt first (now (file .entry)))
+        (textsAt second (now (file .entry))) ⌝ }
 {
     same_text(file, first.context, own.context)
         && same_text(file, second.context, own.context)
@@ -70,7 +74,8 @@ fn asks_h(file: &[u8], own: Judged, first: Judged, second: Judged) -> bool
 
 // Rule A: the type is `>` U T; in the context the first premise has D, and the second has T in `*` U D.
 fn asks_a(file: &[u8], own: Judged, first: Judged, second: Judged) -> bool
-    ensures { λ r. ⌜ r ≡ asksTextA (textsAt own (now (file .entry))) (textsAt first (now (file .entry))) (textsAt second (now (file .entry))) ⌝ }
+    ensures { λ r. ⌜ r ≡ asksTextA (textsAt own (now (file .entry))) (textsAt first (now (file .entry)))
+        (textsAt second (now (file .entry))) ⌝ }
 {
     let argument = simple_behind(file, own.ty);
     same_text(file, first.context, own.context)
@@ -88,7 +93,8 @@ fn asks_i(file: &[u8], own: Judged) -> bool
 
 // Rule B: in one context the premises have U and D; the type is `*` U D.
 fn asks_b(file: &[u8], own: Judged, first: Judged, second: Judged) -> bool
-    ensures { λ r. ⌜ r ≡ asksTextB (textsAt own (now (file .entry))) (textsAt first (now (file .entry))) (textsAt second (now (file .entry))) ⌝ }
+    ensures { λ r. ⌜ r ≡ asksTextB (textsAt own (now (file .entry))) (textsAt first (now (file .entry)))
+        (textsAt second (now (file .entry))) ⌝ }
 {
     same_text(file, first.context, own.context)
         && same_text(file, second.context, own.context)
@@ -97,7 +103,8 @@ fn asks_b(file: &[u8], own: Judged, first: Judged, second: Judged) -> bool
 
 // Rule s: in the context the first premise has D; the second has the type in D.
 fn asks_s(file: &[u8], own: Judged, first: Judged, second: Judged) -> bool
-    ensures { λ r. ⌜ r ≡ asksTextS (textsAt own (now (file .entry))) (textsAt first (now (file .entry))) (textsAt second (now (file .entry))) ⌝ }
+    ensures { λ r. ⌜ r ≡ asksTextS (textsAt own (now (file .entry))) (textsAt first (now (file .entry)))
+        (textsAt second (now (file .entry))) ⌝ }
 {
     same_text(file, first.context, own.context)
         && same_text(file, second.context, first.ty)

@@ -26,7 +26,8 @@ module _ (first second : List ℕ) where
 
   -- the first file is refused
   pub first-refused :
-      (found : Checking) → checking.answerOf found ≡ checkingOf first → OneOf (0 ∷ 1 ∷ 2 ∷ 3 ∷ 4 ∷ 5 ∷ 6 ∷ 7 ∷ 8 ∷ []) (tagOf the-type found) →
+      (found : Checking) → checking.answerOf found ≡ checkingOf first →
+      OneOf (0 ∷ 1 ∷ 2 ∷ 3 ∷ 4 ∷ 5 ∷ 6 ∷ 7 ∷ 8 ∷ []) (tagOf the-type found) →
       passedOn (checking.answerOf found) ≡ matchingOf first second
   unfolding matchingOf
   first-refused found said k =
@@ -39,7 +40,8 @@ module _ (first second : List ℕ) where
 
     -- the first is not, and the second is
     pub second-refused :
-        (other : Checking) → checking.answerOf other ≡ checkingOf second → OneOf (0 ∷ 1 ∷ 2 ∷ 3 ∷ 4 ∷ 5 ∷ 6 ∷ 7 ∷ 8 ∷ []) (tagOf the-type other) →
+        (other : Checking) → checking.answerOf other ≡ checkingOf second →
+        OneOf (0 ∷ 1 ∷ 2 ∷ 3 ∷ 4 ∷ 5 ∷ 6 ∷ 7 ∷ 8 ∷ []) (tagOf the-type other) →
         passedOn (checking.answerOf other) ≡ matchingOf first second
     unfolding matchingOf
     second-refused other is k =
@@ -49,9 +51,12 @@ module _ (first second : List ℕ) where
     -- neither is
     pub both-answered :
         {other : Checking} {m : ℕ} → checking.answerOf other ≡ checkingOf second → other ≡ Accepted m → (x y : Texts) (r : Bool) →
-        x ≡ claimTexts (checkingOf first) first → y ≡ claimTexts (checkingOf second) second → r ≡ sameTexts x y → Reply.answered r ≡ matchingOf first second
+        x ≡ claimTexts (checkingOf first) first → y ≡ claimTexts (checkingOf second) second → r ≡ sameTexts x y →
+        Reply.answered r ≡ matchingOf first second
     unfolding matchingOf
     both-answered {other} {m} is well x y r p q e =
         let second-answered : checkingOf second ≡ Reply.answered m = sym is ∙ ap checking.answerOf well in
-        ap Reply.answered (e ∙ ap₂ sameTexts (p ∙ ap (λ (s : Reply ℕ). claimTexts s first) first-answered) (q ∙ ap (λ (s : Reply ℕ). claimTexts s second) second-answered))
+        ap Reply.answered
+        (e ∙ ap₂ sameTexts (p ∙ ap (λ (s : Reply ℕ). claimTexts s first) first-answered)
+        (q ∙ ap (λ (s : Reply ℕ). claimTexts s second) second-answered))
         ∙ sym (ap₂ (λ (s t : Reply ℕ). afterBoth s t verdict) first-answered second-answered)

@@ -36,12 +36,14 @@ same-number s = go (isZero s) refl
 pub number-none : (s : List ℕ) → decimalOf s ≡ none → 0 ≡ upTo lineLimit (numberOf s)
 number-none s e = sym (ap (upTo lineLimit) e) ∙ same-number s
 
-pub number-past : (s : List ℕ) (m kept : ℕ) → decimalOf s ≡ some m → kept ≡ min m (lineLimit + 1) → lineLimit < kept → 0 ≡ upTo lineLimit (numberOf s)
+pub number-past :
+    (s : List ℕ) (m kept : ℕ) → decimalOf s ≡ some m → kept ≡ min m (lineLimit + 1) → lineLimit < kept → 0 ≡ upTo lineLimit (numberOf s)
 number-past s m kept e p h =
     let past : lineLimit < m = omega (arith, p, h) in
     sym (ap (upTo lineLimit) e ∙ ap (λ (t : Bool). cond t m 0) (lt-leb m lineLimit past)) ∙ same-number s
 
-pub number-within : (s : List ℕ) (m kept : ℕ) → decimalOf s ≡ some m → kept ≡ min m (lineLimit + 1) → kept ≤ lineLimit → kept ≡ upTo lineLimit (numberOf s)
+pub number-within :
+    (s : List ℕ) (m kept : ℕ) → decimalOf s ≡ some m → kept ≡ min m (lineLimit + 1) → kept ≤ lineLimit → kept ≡ upTo lineLimit (numberOf s)
 number-within s m kept e p h =
     let within : m ≤ lineLimit = omega (arith, p, h) in
     let all : kept ≡ m = omega (arith, p, h) in
@@ -110,7 +112,8 @@ module _ (starts : List ℕ) (n : ℕ) (bytes : List ℕ) where
         go (some m) q e = ap some (small m (leb m lineLimit) e)
 
     pub cite-late : (number ≡ 0 → ⊥) → n < number → Nothing ≡ citedOf starts n (premiseOf bytes)
-    cite-late nonzero late = over number late ∙ ap (λ (o : Option ℕ). citedOf starts n (premiseOr false o)) (sym (number-read nonzero)) ∙ number-cited no-dash
+    cite-late nonzero late =
+        over number late ∙ ap (λ (o : Option ℕ). citedOf starts n (premiseOr false o)) (sym (number-read nonzero)) ∙ number-cited no-dash
 
     pub cite-line : (number ≡ 0 → ⊥) → number ≤ n → Line (getD starts (number - 1) 0) ≡ citedOf starts n (premiseOf bytes)
     cite-line nonzero early =
@@ -119,7 +122,9 @@ module _ (starts : List ℕ) (n : ℕ) (bytes : List ℕ) where
 
 -- ---- a rule with two premises
 
-pub two-fit : (count : ℕ) (first second : Cited) (r : Bool) → (count ≡ 0 → ⊥) → (count ≡ 1 → ⊥) → r ≡ (isLine first && isLine second) → r ≡ citedFit count first second
+pub two-fit :
+    (count : ℕ) (first second : Cited) (r : Bool) → (count ≡ 0 → ⊥) → (count ≡ 1 → ⊥) → r ≡ (isLine first && isLine second) →
+    r ≡ citedFit count first second
 two-fit zero first second r n m e = absurd (n refl)
 two-fit (suc zero) first second r n m e = absurd (m refl)
 two-fit (suc (suc count)) first second r n m e = e

@@ -64,5 +64,7 @@ field-other (b ∷ []) n = absurd (n refl)
 field-other (b ∷ c ∷ s) n = refl
 
 -- a test by the rule that is given
-pub builds-by : (rule given : Rule) (term first second : List ℕ) (r : Bool) → rule ≡ given → r ≡ buildsText given term first second → r ≡ buildsText rule term first second
+pub builds-by :
+    (rule given : Rule) (term first second : List ℕ) (r : Bool) → rule ≡ given → r ≡ buildsText given term first second →
+    r ≡ buildsText rule term first second
 builds-by rule given term first second r e made = made ∙ sym (ap (λ (x : Rule). buildsText x term first second) e)

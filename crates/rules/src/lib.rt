@@ -100,7 +100,8 @@ pub fn premise_count(rule: Rule) -> usize
 
 // Whether the term is the one that the rule builds of the premises' terms.
 pub fn builds(file: &[u8], rule: Rule, term: Span, first: Span, second: Span) -> bool
-    ensures { λ r. ⌜ r ≡ buildsText rule (textAt term (now (file .entry))) (textAt first (now (file .entry))) (textAt second (now (file .entry))) ⌝ }
+    ensures { λ r. ⌜ r ≡ buildsText rule (textAt term (now (file .entry))) (textAt first (now (file .entry)))
+        (textAt second (now (file .entry))) ⌝ }
 {
     let nothing = Span { from: 0, to: 0 };
     match rule {

@@ -26,7 +26,8 @@ refusal-requires-2 c κs = search needs
 returns-2 : tie.Need-returns-2
 returns-2 c =
     let file = c .before .before .before .before .args .file .now in
-    refuses file (c .refusal2 .result) FileEmpty 11 0 (checkingOf file) (c .refusal2 .ensures) refl (is-empty file (omega arith) (c .before .if2 .taken))
+    refuses file (c .refusal2 .result) FileEmpty 11 0 (checkingOf file) (c .refusal2 .ensures) refl
+    (is-empty file (omega arith) (c .before .if2 .taken))
 
 sub-byte-at : tie.Need-sub-byte-at
 sub-byte-at c = search needs
@@ -41,7 +42,8 @@ returns-3 : tie.Need-returns-3
 returns-3 c =
     let file = c .before .before .before .before .before .before .args .file .now in
     refuses file (c .refusal3 .result) NoLineEnd 12 0 (checkingOf file) (c .refusal3 .ensures) refl
-    (no-line-end file (omega arith) (c .before .before .before .if2 .left) (λ e. c .before .if3 .taken (c .before .before .byte-at .ensures ∙ sym (last-byte file (c .before .before .before .if2 .left)) ∙ e)))
+    (no-line-end file (omega arith) (c .before .before .before .if2 .left)
+    (λ e. c .before .if3 .taken (c .before .before .byte-at .ensures ∙ sym (last-byte file (c .before .before .before .if2 .left)) ∙ e)))
 
 line-count-requires : tie.Need-line-count-requires
 line-count-requires c κs = search needs
@@ -53,17 +55,24 @@ returns-4 : tie.Need-returns-4
 returns-4 c =
     let file = c .before .before .before .before .before .before .before .before .args .file .now in
     refuses file (c .refusal4 .result) TooManyLines 13 0 (checkingOf file) (c .refusal4 .ensures) refl
-    (too-many file (omega arith) (c .before .before .before .before .before .if2 .left) (last-byte file (c .before .before .before .before .before .if2 .left) ∙ sym (c .before .before .before .before .byte-at .ensures) ∙ c .before .before .before .if3 .left) (omega (arith, c .before .before .line-count .ensures)))
+    (too-many file (omega arith) (c .before .before .before .before .before .if2 .left)
+    (last-byte file (c .before .before .before .before .before .if2 .left) ∙ sym (c .before .before .before .before .byte-at .ensures)
+    ∙ c .before .before .before .if3 .left) (omega (arith, c .before .before .line-count .ensures)))
 
 check-lines-requires : tie.Need-check-lines-requires
 check-lines-requires c κs =
-    let file = c .before .before .before .before .before .before .before .args .file .now in
-    (last-byte file (c .before .before .before .before .if2 .left) ∙ sym (c .before .before .before .byte-at .ensures) ∙ c .before .before .if3 .left, omega (arith, c .before .line-count .ensures))
+    let file = c .before .before .before .before .before .before .before .args .file .now in (
+      last-byte file (c .before .before .before .before .if2 .left) ∙ sym (c .before .before .before .byte-at .ensures)
+          ∙ c .before .before .if3 .left,
+      omega (arith, c .before .line-count .ensures),
+    )
 
 returns-5 : tie.Need-returns-5
 returns-5 c =
     let file = c .before .before .before .before .before .before .before .before .args .file .now in
-    let whole = line-by-line file (omega arith) (c .before .before .before .before .before .if2 .left) (last-byte file (c .before .before .before .before .before .if2 .left) ∙ sym (c .before .before .before .before .byte-at .ensures) ∙ c .before .before .before .if3 .left) (omega (arith, c .before .before .line-count .ensures)) in
+    let whole = line-by-line file (omega arith) (c .before .before .before .before .before .if2 .left)
+    (last-byte file (c .before .before .before .before .before .if2 .left) ∙ sym (c .before .before .before .before .byte-at .ensures)
+    ∙ c .before .before .before .if3 .left) (omega (arith, c .before .before .line-count .ensures)) in
     (c .check-lines .ensures .0 ∙ whole, c .check-lines .ensures .1 ∙ ap (λ (r : Reply ℕ). claimTexts r file) whole)
 
 pub check-claim-spec : {M : Type 1} → statement M

@@ -1,5 +1,7 @@
--- `checking::check_lines` meets its contract. The loop's invariant: the lines passed were good, the table holds where they begin, the claim is
--- that of the last, and the lines from `at` on decide the whole (`Walk.Passed`). The measure is how many lines may still come. Assumes nothing.
+-- `checking::check_lines` meets its contract. The loop's invariant: the lines passed were good, the table holds where they begin, the claim
+-- is
+-- that of the last, and the lines from `at` on decide the whole (`Walk.Passed`). The measure is how many lines may still come. Assumes
+-- nothing.
 use borrow.Author.Needs.{needs}
 use Prim.Native.Nat.{ℕ, _+_, _-_}
 use mathlib.Core.Path.{_≡_, sym, _∙_, ap, subst}
@@ -50,7 +52,8 @@ check-line-requires c κs =
     let n = c .before .before .before .loop .n in
     let at = c .before .before .before .loop .at in
     let claim = c .before .before .before .loop .claim in
-    room file starts n at claim (c .before .before .before .loop .inv) (c .before .before .before .before .before .before .pre .0) (c .before .before .loop-test .taken) (c .before .before .before .before .before .before .pre .1)
+    room file starts n at claim (c .before .before .before .loop .inv) (c .before .before .before .before .before .before .pre .0)
+    (c .before .before .loop-test .taken) (c .before .before .before .before .before .before .pre .1)
 
 number-requires : tie.Need-number-requires Inv-loop μ-loop
 number-requires c κs = search needs
@@ -65,11 +68,17 @@ returns c =
     let n = c .before .before .before .before .before .before .before .loop .n in
     let at = c .before .before .before .before .before .before .before .loop .at in
     let claim = c .before .before .before .before .before .before .before .loop .claim in
-    let said : answerOf (c .before .before .before .check-line .result) ≡ lineReply file starts n (sixAt file at) = c .before .before .before .check-line .ensures ∙ ap (lineReply file starts n) (c .before .before .before .before .before .six-at .ensures) in
-    let (number, line, e) = by-number (answerOf (c .before .before .before .check-line .result)) (λ z. c .before .if1 .taken (c .before .before .number .ensures ∙ z)) in
+    let said : answerOf (c .before .before .before .check-line .result) ≡ lineReply file starts n (sixAt file at) = c .before .before
+    .before .check-line .ensures ∙ ap (lineReply file starts n) (c .before .before .before .before .before .six-at .ensures) in
+    let (number, line, e) = by-number (answerOf (c .before .before .before .check-line .result))
+    (λ z. c .before .if1 .taken (c .before .before .number .ensures ∙ z)) in
     let no-answer = sym (ap isAnswered said) ∙ ap isAnswered e in
-    refuses file (c .refusal .result) (c .before .before .before .check-line .result) number line (checkLines 0 [] (lines file)) (c .refusal .ensures) e
-    (sym e ∙ said ∙ refused file starts n at claim (c .before .before .before .before .before .before .before .loop .inv) (c .before .before .before .before .before .before .before .before .before .before .pre .0) (c .before .before .before .before .before .before .loop-test .taken) no-answer)
+    refuses file (c .refusal .result) (c .before .before .before .check-line .result) number line (checkLines 0 [] (lines file))
+    (c .refusal .ensures) e
+    (sym e ∙ said
+    ∙ refused file starts n at claim (c .before .before .before .before .before .before .before .loop .inv)
+    (c .before .before .before .before .before .before .before .before .before .before .pre .0)
+    (c .before .before .before .before .before .before .loop-test .taken) no-answer)
 
 mul-starts : tie.Need-mul-starts Inv-loop μ-loop
 mul-starts c =
@@ -78,7 +87,10 @@ mul-starts c =
     let n = c .before .before .before .before .before .before .loop .n in
     let at = c .before .before .before .before .before .before .loop .at in
     let claim = c .before .before .before .before .before .before .loop .claim in
-    let few = room file starts n at claim (c .before .before .before .before .before .before .loop .inv) (c .before .before .before .before .before .before .before .before .before .pre .0) (c .before .before .before .before .before .loop-test .taken) (c .before .before .before .before .before .before .before .before .before .pre .1) in
+    let few = room file starts n at claim (c .before .before .before .before .before .before .loop .inv)
+    (c .before .before .before .before .before .before .before .before .before .pre .0)
+    (c .before .before .before .before .before .loop-test .taken)
+    (c .before .before .before .before .before .before .before .before .before .pre .1) in
     omega arith
 
 array-write-starts : tie.Need-array-write-starts Inv-loop μ-loop
@@ -88,7 +100,10 @@ array-write-starts c =
     let n = c .before .before .before .before .before .before .loop .n in
     let at = c .before .before .before .before .before .before .loop .at in
     let claim = c .before .before .before .before .before .before .loop .claim in
-    let few = room file starts n at claim (c .before .before .before .before .before .before .loop .inv) (c .before .before .before .before .before .before .before .before .before .pre .0) (c .before .before .before .before .before .loop-test .taken) (c .before .before .before .before .before .before .before .before .before .pre .1) in
+    let few = room file starts n at claim (c .before .before .before .before .before .before .loop .inv)
+    (c .before .before .before .before .before .before .before .before .before .pre .0)
+    (c .before .before .before .before .before .loop-test .taken)
+    (c .before .before .before .before .before .before .before .before .before .pre .1) in
     omega (arith, c .before .before .before .before .before .before .loop .inv .size)
 
 add-n : tie.Need-add-n Inv-loop μ-loop
@@ -98,7 +113,10 @@ add-n c =
     let n = c .before .before .before .before .before .before .loop .n in
     let at = c .before .before .before .before .before .before .loop .at in
     let claim = c .before .before .before .before .before .before .loop .claim in
-    let few = room file starts n at claim (c .before .before .before .before .before .before .loop .inv) (c .before .before .before .before .before .before .before .before .before .pre .0) (c .before .before .before .before .before .loop-test .taken) (c .before .before .before .before .before .before .before .before .before .pre .1) in
+    let few = room file starts n at claim (c .before .before .before .before .before .before .loop .inv)
+    (c .before .before .before .before .before .before .before .before .before .pre .0)
+    (c .before .before .before .before .before .loop-test .taken)
+    (c .before .before .before .before .before .before .before .before .before .pre .1) in
     omega arith
 
 add-at : tie.Need-add-at Inv-loop μ-loop
@@ -108,10 +126,19 @@ add-at c =
     let n = c .before .before .before .before .before .before .before .loop .n in
     let at = c .before .before .before .before .before .before .before .loop .at in
     let claim = c .before .before .before .before .before .before .before .loop .claim in
-    let said : answerOf (c .before .before .before .check-line .result) ≡ lineReply file starts n (sixAt file at) = c .before .before .before .check-line .ensures ∙ ap (lineReply file starts n) (c .before .before .before .before .before .six-at .ensures) in
-    let good = unrefused file starts n (sixAt file at) (sym (ap (λ (r : Reply ℕ). numberIn r) said) ∙ sym (c .before .before .number .ensures) ∙ c .before .if1 .left) in
-    let ends = again file starts n at claim (c .before .before .before .before .before .before .before .loop .inv) (c .before .before .before .before .before .before .before .before .before .before .pre .0) (c .before .before .before .before .before .before .loop-test .taken) good (c .before .before .before .before .before .before .before .before .before .before .pre .1) .0 in
-    omega (arith, ap (λ (l : SixFields). l .second .to) (c .before .before .before .before .before .six-at .ensures), c .before .before .before .before .before .before .before .before .before .before .good .0 .0)
+    let said : answerOf (c .before .before .before .check-line .result) ≡ lineReply file starts n (sixAt file at) = c .before .before
+    .before .check-line .ensures ∙ ap (lineReply file starts n) (c .before .before .before .before .before .six-at .ensures) in
+    let good = unrefused file starts n (sixAt file at)
+    (sym (ap (λ (r : Reply ℕ). numberIn r) said) ∙ sym (c .before .before .number .ensures) ∙ c .before .if1 .left) in
+    let ends = again file starts n at claim (c .before .before .before .before .before .before .before .loop .inv)
+    (c .before .before .before .before .before .before .before .before .before .before .pre .0)
+    (c .before .before .before .before .before .before .loop-test .taken) good
+    (c .before .before .before .before .before .before .before .before .before .before .pre .1) .0 in
+    omega (
+      arith,
+      ap (λ (l : SixFields). l .second .to) (c .before .before .before .before .before .six-at .ensures),
+      c .before .before .before .before .before .before .before .before .before .before .good .0 .0,
+    )
 
 loop-less : tie.Need-loop-less Inv-loop μ-loop
 loop-less c =
@@ -120,7 +147,10 @@ loop-less c =
     let n = c .before .before .before .before .before .before .before .before .loop .n in
     let at = c .before .before .before .before .before .before .before .before .loop .at in
     let claim = c .before .before .before .before .before .before .before .before .loop .claim in
-    let few = room file starts n at claim (c .before .before .before .before .before .before .before .before .loop .inv) (c .before .before .before .before .before .before .before .before .before .before .before .pre .0) (c .before .before .before .before .before .before .before .loop-test .taken) (c .before .before .before .before .before .before .before .before .before .before .before .pre .1) in
+    let few = room file starts n at claim (c .before .before .before .before .before .before .before .before .loop .inv)
+    (c .before .before .before .before .before .before .before .before .before .before .before .pre .0)
+    (c .before .before .before .before .before .before .before .loop-test .taken)
+    (c .before .before .before .before .before .before .before .before .before .before .before .pre .1) in
     omega arith
 
 loop-again : tie.Need-loop-again Inv-loop μ-loop
@@ -130,10 +160,17 @@ loop-again c =
     let n = c .before .before .before .before .before .before .before .before .loop .n in
     let at = c .before .before .before .before .before .before .before .before .loop .at in
     let claim = c .before .before .before .before .before .before .before .before .loop .claim in
-    let said : answerOf (c .before .before .before .before .check-line .result) ≡ lineReply file starts n (sixAt file at) = c .before .before .before .before .check-line .ensures ∙ ap (lineReply file starts n) (c .before .before .before .before .before .before .six-at .ensures) in
-    let good = unrefused file starts n (sixAt file at) (sym (ap (λ (r : Reply ℕ). numberIn r) said) ∙ sym (c .before .before .before .number .ensures) ∙ c .before .before .if1 .left) in
-    subst (λ (l : SixFields). Passed file (set starts n at) (n + 1) (l .second .to + 1) (l .own)) (sym (c .before .before .before .before .before .before .six-at .ensures))
-    (again file starts n at claim (c .before .before .before .before .before .before .before .before .loop .inv) (c .before .before .before .before .before .before .before .before .before .before .before .pre .0) (c .before .before .before .before .before .before .before .loop-test .taken) good (c .before .before .before .before .before .before .before .before .before .before .before .pre .1) .1)
+    let said : answerOf (c .before .before .before .before .check-line .result) ≡ lineReply file starts n (sixAt file at) = c .before
+    .before .before .before .check-line .ensures
+    ∙ ap (lineReply file starts n) (c .before .before .before .before .before .before .six-at .ensures) in
+    let good = unrefused file starts n (sixAt file at)
+    (sym (ap (λ (r : Reply ℕ). numberIn r) said) ∙ sym (c .before .before .before .number .ensures) ∙ c .before .before .if1 .left) in
+    subst (λ (l : SixFields). Passed file (set starts n at) (n + 1) (l .second .to + 1) (l .own))
+    (sym (c .before .before .before .before .before .before .six-at .ensures))
+    (again file starts n at claim (c .before .before .before .before .before .before .before .before .loop .inv)
+    (c .before .before .before .before .before .before .before .before .before .before .before .pre .0)
+    (c .before .before .before .before .before .before .before .loop-test .taken) good
+    (c .before .before .before .before .before .before .before .before .before .before .before .pre .1) .1)
 
 returns-2 : tie.Need-returns-2 Inv-loop μ-loop
 returns-2 c =

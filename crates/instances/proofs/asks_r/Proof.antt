@@ -31,23 +31,49 @@ same-text-requires c κs = search needs
 
 returns : tie.Need-returns
 returns c =
-    let own = textsAt (c .before .before .before .before .before .before .args .own) (c .before .before .before .before .before .before .args .file .now) in
-    let first = textsAt (c .before .before .before .before .before .before .args .first) (c .before .before .before .before .before .before .args .file .now) in
+    let own = textsAt (c .before .before .before .before .before .before .args .own)
+    (c .before .before .before .before .before .before .args .file .now) in
+    let first = textsAt (c .before .before .before .before .before .before .args .first)
+    (c .before .before .before .before .before .before .args .file .now) in
     three-made _ _ _ (c .before .before .if1 .if2) (c .same-text .result)
     (⊎-elim
-    (λ w. inl (sym (c .before .before .before .is-join .ensures ∙ ap (λ (s : List ℕ). same (own .context) (typeText Sign.bind s (first .context))) (c .before .before .before .before .simple-behind .ensures)) ∙ w .0 .taken, w .3 ∙ w .2 .ensures ∙ ap (λ (s : List ℕ). isSimple (typeOf s)) (w .1 .ensures)))
-    (λ w. inr (sym (c .before .before .before .is-join .ensures ∙ ap (λ (s : List ℕ). same (own .context) (typeText Sign.bind s (first .context))) (c .before .before .before .before .simple-behind .ensures)) ∙ w .0 .left, w .1 ∙ w .0 .left))
+    (λ w. inl (
+      sym (c .before .before .before .is-join .ensures
+          ∙ ap (λ (s : List ℕ). same (own .context) (typeText Sign.bind s (first .context)))
+          (c .before .before .before .before .simple-behind .ensures)) ∙ w .0 .taken,
+      w .3 ∙ w .2 .ensures
+          ∙ ap (λ (s : List ℕ). isSimple (typeOf s)) (w .1 .ensures),
+    ))
+    (λ w. inr (
+      sym (c .before .before .before .is-join .ensures
+          ∙ ap (λ (s : List ℕ). same (own .context) (typeText Sign.bind s (first .context)))
+          (c .before .before .before .before .simple-behind .ensures)) ∙ w .0 .left,
+      w .1 ∙ w .0 .left,
+    ))
     (c .before .before .if1 .came))
     (c .before .if2 .taken) (c .same-text .ensures)
 
 returns-2 : tie.Need-returns-2
 returns-2 c =
     let own = textsAt (c .before .before .before .before .before .args .own) (c .before .before .before .before .before .args .file .now) in
-    let first = textsAt (c .before .before .before .before .before .args .first) (c .before .before .before .before .before .args .file .now) in
+    let first = textsAt (c .before .before .before .before .before .args .first)
+    (c .before .before .before .before .before .args .file .now) in
     three-missed _ _ _ (c .before .if1 .if2)
     (⊎-elim
-    (λ w. inl (sym (c .before .before .is-join .ensures ∙ ap (λ (s : List ℕ). same (own .context) (typeText Sign.bind s (first .context))) (c .before .before .before .simple-behind .ensures)) ∙ w .0 .taken, w .3 ∙ w .2 .ensures ∙ ap (λ (s : List ℕ). isSimple (typeOf s)) (w .1 .ensures)))
-    (λ w. inr (sym (c .before .before .is-join .ensures ∙ ap (λ (s : List ℕ). same (own .context) (typeText Sign.bind s (first .context))) (c .before .before .before .simple-behind .ensures)) ∙ w .0 .left, w .1 ∙ w .0 .left))
+    (λ w. inl (
+      sym (c .before .before .is-join .ensures
+          ∙ ap (λ (s : List ℕ). same (own .context) (typeText Sign.bind s (first .context)))
+          (c .before .before .before .simple-behind .ensures))
+          ∙ w .0 .taken,
+      w .3 ∙ w .2 .ensures ∙ ap (λ (s : List ℕ). isSimple (typeOf s)) (w .1 .ensures),
+    ))
+    (λ w. inr (
+      sym (c .before .before .is-join .ensures
+          ∙ ap (λ (s : List ℕ). same (own .context) (typeText Sign.bind s (first .context)))
+          (c .before .before .before .simple-behind .ensures))
+          ∙ w .0 .left,
+      w .1 ∙ w .0 .left,
+    ))
     (c .before .if1 .came))
     (c .if2 .left)
 

@@ -18,10 +18,19 @@ returns c =
     (c .before .simple-end .result) (c .before .before .bytes-of .ensures) (c .before .simple-end .ensures) (c .if1 .taken)
 
 add-t5 : tie.Need-add-t5
-add-t5 c = let room = behind-room (c .before .before .before .before .before .args .file .now) (c .before .before .before .bytes-of .result .now) (c .before .before .before .before .before .args .w .from) (c .before .before .before .before .before .args .w .to) (c .before .before .simple-end .result) (c .before .before .before .bytes-of .ensures) (c .before .before .simple-end .ensures) (c .before .if1 .left) in omega (arith, c .before .before .before .before .before .good .0 .0)
+add-t5 c =
+    let room = behind-room (c .before .before .before .before .before .args .file .now) (c .before .before .before .bytes-of .result .now)
+    (c .before .before .before .before .before .args .w .from) (c .before .before .before .before .before .args .w .to)
+    (c .before .before .simple-end .result) (c .before .before .before .bytes-of .ensures) (c .before .before .simple-end .ensures)
+    (c .before .if1 .left) in omega (arith, c .before .before .before .before .before .good .0 .0)
 
 add-t7 : tie.Need-add-t7
-add-t7 c = let room = behind-room (c .before .before .before .before .before .before .args .file .now) (c .before .before .before .before .bytes-of .result .now) (c .before .before .before .before .before .before .args .w .from) (c .before .before .before .before .before .before .args .w .to) (c .before .before .before .simple-end .result) (c .before .before .before .before .bytes-of .ensures) (c .before .before .before .simple-end .ensures) (c .before .before .if1 .left) in omega (arith, c .before .before .before .before .before .before .good .0 .0)
+add-t7 c =
+    let room = behind-room (c .before .before .before .before .before .before .args .file .now)
+    (c .before .before .before .before .bytes-of .result .now) (c .before .before .before .before .before .before .args .w .from)
+    (c .before .before .before .before .before .before .args .w .to) (c .before .before .before .simple-end .result)
+    (c .before .before .before .before .bytes-of .ensures) (c .before .before .before .simple-end .ensures)
+    (c .before .before .if1 .left) in omega (arith, c .before .before .before .before .before .before .good .0 .0)
 
 returns-2 : tie.Need-returns-2
 returns-2 c =

@@ -43,8 +43,11 @@ returns-3 c =
     let one = textsAt (c .before .before .before .before .before .before .before .check-claim .result .claim) first in
     let two = textsAt (c .before .before .before .before .check-claim2 .result .claim) second in
     ap Reply.answered (sym (c .if1 .taken))
-    ∙ both-answered first second (c .before .before .before .before .before .before .before .check-claim .ensures .0) (c .before .before .before .before .before .enum-told .given .1) (c .before .before .before .before .check-claim2 .ensures .0) (c .before .before .enum-told2 .given .1)
-    one two (c .before .same-claim .result) (c .before .before .before .before .before .before .before .check-claim .ensures .1) (c .before .before .before .before .check-claim2 .ensures .1) (c .before .same-claim .ensures)
+    ∙ both-answered first second (c .before .before .before .before .before .before .before .check-claim .ensures .0)
+    (c .before .before .before .before .before .enum-told .given .1) (c .before .before .before .before .check-claim2 .ensures .0)
+    (c .before .before .enum-told2 .given .1)
+    one two (c .before .same-claim .result) (c .before .before .before .before .before .before .before .check-claim .ensures .1)
+    (c .before .before .before .before .check-claim2 .ensures .1) (c .before .same-claim .ensures)
 
 returns-4 : tie.Need-returns-4
 returns-4 c =
@@ -53,8 +56,11 @@ returns-4 c =
     let one = textsAt (c .before .before .before .before .before .before .before .check-claim .result .claim) first in
     let two = textsAt (c .before .before .before .before .check-claim2 .result .claim) second in
     ap Reply.answered (sym (c .if1 .left))
-    ∙ both-answered first second (c .before .before .before .before .before .before .before .check-claim .ensures .0) (c .before .before .before .before .before .enum-told .given .1) (c .before .before .before .before .check-claim2 .ensures .0) (c .before .before .enum-told2 .given .1)
-    one two (c .before .same-claim .result) (c .before .before .before .before .before .before .before .check-claim .ensures .1) (c .before .before .before .before .check-claim2 .ensures .1) (c .before .same-claim .ensures)
+    ∙ both-answered first second (c .before .before .before .before .before .before .before .check-claim .ensures .0)
+    (c .before .before .before .before .before .enum-told .given .1) (c .before .before .before .before .check-claim2 .ensures .0)
+    (c .before .before .enum-told2 .given .1)
+    one two (c .before .same-claim .result) (c .before .before .before .before .before .before .before .check-claim .ensures .1)
+    (c .before .before .before .before .check-claim2 .ensures .1) (c .before .same-claim .ensures)
 
 pub match-claims-spec : {M : Type 1} → statement M
 match-claims-spec =

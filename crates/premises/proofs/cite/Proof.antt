@@ -35,7 +35,8 @@ returns-2 : tie.Need-returns-2
 returns-2 c =
     let starts = c .before .before .before .before .before .before .before .args .starts .now in
     let last = min (c .before .before .before .before .before .before .before .args .n) lineLimit in
-    cite-none starts last (c .before .before .before .before .bytes-of .result .now) (within (c .before .before .before .before .before .before .before .args .n)) (c .before .number-of .result)
+    cite-none starts last (c .before .before .before .before .bytes-of .result .now)
+    (within (c .before .before .before .before .before .before .before .args .n)) (c .before .number-of .result)
     (sym (c .before .before .before .is-dash .ensures) ∙ c .before .before .if1 .left) (c .before .number-of .ensures) (c .if2 .taken)
     ∙ ap (λ (s : List ℕ). citedOf starts last (premiseOf s)) (c .before .before .before .before .bytes-of .ensures)
 
@@ -47,7 +48,8 @@ returns-3 c =
     let number = c .before .before .number-of .result in
     let late : last < number = omega (arith, c .if3 .taken) in
     cite-late starts last (c .before .before .before .before .before .bytes-of .result .now) (within n) number
-    (sym (c .before .before .before .before .is-dash .ensures) ∙ c .before .before .before .if1 .left) (c .before .before .number-of .ensures) (c .before .if2 .left) late
+    (sym (c .before .before .before .before .is-dash .ensures) ∙ c .before .before .before .if1 .left)
+    (c .before .before .number-of .ensures) (c .before .if2 .left) late
     ∙ ap (λ (s : List ℕ). citedOf starts last (premiseOf s)) (c .before .before .before .before .before .bytes-of .ensures)
 
 sub-start-of : tie.Need-sub-start-of
@@ -63,10 +65,12 @@ returns-4 c =
     let last = min n lineLimit in
     let number = c .before .before .before .number-of .result in
     let no-dash = sym (c .before .before .before .before .before .is-dash .ensures) ∙ c .before .before .before .before .if1 .left in
-    let few = number-few starts last (c .before .before .before .before .before .before .bytes-of .result .now) (within n) number no-dash (c .before .before .before .number-of .ensures) in
+    let few = number-few starts last (c .before .before .before .before .before .before .bytes-of .result .now) (within n) number no-dash
+    (c .before .before .before .number-of .ensures) in
     let early : number ≤ last = omega (arith, c .before .if3 .left, few) in
     ap Line (c .start-of .ensures)
-    ∙ cite-line starts last (c .before .before .before .before .before .before .bytes-of .result .now) (within n) number no-dash (c .before .before .before .number-of .ensures) (c .before .before .if2 .left) early
+    ∙ cite-line starts last (c .before .before .before .before .before .before .bytes-of .result .now) (within n) number no-dash
+    (c .before .before .before .number-of .ensures) (c .before .before .if2 .left) early
     ∙ ap (λ (s : List ℕ). citedOf starts last (premiseOf s)) (c .before .before .before .before .before .before .bytes-of .ensures)
 
 pub cite-spec : {M : Type 1} → statement M

@@ -75,7 +75,9 @@ returns-2 c =
     builds-by (start .args .rule) R (textAt (start .args .term) (start .args .file .now))
     (textAt (start .args .first) (start .args .file .now)) (textAt (start .args .second) (start .args .file .now)) (c .is-join2 .result)
     (c .before .enum-told2 .given .1)
-    (c .is-join2 .ensures ∙ ap (λ (s : List ℕ). same (textAt (start .args .term) (start .args .file .now)) (82 ∷ s)) (append-nil (textAt (start .args .first) (start .args .file .now))))
+    (c .is-join2 .ensures
+    ∙ ap (λ (s : List ℕ). same (textAt (start .args .term) (start .args .file .now)) (82 ∷ s))
+    (append-nil (textAt (start .args .first) (start .args .file .now))))
 
 returns-3 : tie.Need-returns-3
 returns-3 c =

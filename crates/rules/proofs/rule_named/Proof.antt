@@ -49,7 +49,8 @@ returns-9 c =
     let at-if1 = at-if2 .before in
     let start = at-if1 .before in
     unnamed (start .args .b)
-    (other (start .args .b) (at-if1 .if1 .left) (at-if2 .if2 .left) (at-if3 .if3 .left) (at-if4 .if4 .left) (at-if5 .if5 .left) (c .before .before .if6 .left) (c .before .if7 .left) (c .if8 .left))
+    (other (start .args .b) (at-if1 .if1 .left) (at-if2 .if2 .left) (at-if3 .if3 .left) (at-if4 .if4 .left) (at-if5 .if5 .left)
+    (c .before .before .if6 .left) (c .before .if7 .left) (c .if8 .left))
 
 pub rule-named-spec : {M : Type 1} → statement M
 rule-named-spec =

@@ -25,7 +25,8 @@ returns c =
     (λ (s : List ℕ). ruleOf (nameOf s)) (at-bytes-of .bytes-of .ensures)
 
 returns-2 : tie.Need-returns-2
-returns-2 c = field-other (c .before .bytes-of .result .now) (c .if1 .left) ∙ ap (λ (s : List ℕ). ruleOf (nameOf s)) (c .before .bytes-of .ensures)
+returns-2 c =
+    field-other (c .before .bytes-of .result .now) (c .if1 .left) ∙ ap (λ (s : List ℕ). ruleOf (nameOf s)) (c .before .bytes-of .ensures)
 
 pub rule-of-spec : {M : Type 1} → statement M
 rule-of-spec =

@@ -36,8 +36,16 @@ returns c =
     let at-bytes-of = at-is-context .before in
     three-made _ _ _ (at-if1 .if1 .if2) (c .is-type .result)
     (⊎-elim
-    (λ w. inl (sym (at-is-context .is-context .ensures ∙ ap (λ (s : List ℕ). isSome (contextOf s)) (at-bytes-of .bytes-of .ensures)) ∙ w .0 .taken, w .3 ∙ w .2 .ensures ∙ ap (λ (s : List ℕ). isSome (termOf s)) (w .1 .ensures)))
-    (λ w. inr (sym (at-is-context .is-context .ensures ∙ ap (λ (s : List ℕ). isSome (contextOf s)) (at-bytes-of .bytes-of .ensures)) ∙ w .0 .left, w .1 ∙ w .0 .left))
+    (λ w. inl (
+      sym (at-is-context .is-context .ensures ∙ ap (λ (s : List ℕ). isSome (contextOf s)) (at-bytes-of .bytes-of .ensures))
+          ∙ w .0 .taken,
+      w .3 ∙ w .2 .ensures ∙ ap (λ (s : List ℕ). isSome (termOf s)) (w .1 .ensures),
+    ))
+    (λ w. inr (
+      sym (at-is-context .is-context .ensures ∙ ap (λ (s : List ℕ). isSome (contextOf s)) (at-bytes-of .bytes-of .ensures))
+          ∙ w .0 .left,
+      w .1 ∙ w .0 .left,
+    ))
     (at-if1 .if1 .came))
     (c .before .before .if2 .taken) (c .is-type .ensures ∙ ap (λ (s : List ℕ). isSome (typeOf s)) (c .before .bytes-of3 .ensures))
 
@@ -46,8 +54,16 @@ returns-2 c =
     let at-bytes-of = c .before .before .before in
     three-missed _ _ _ (c .before .if1 .if2)
     (⊎-elim
-    (λ w. inl (sym (c .before .before .is-context .ensures ∙ ap (λ (s : List ℕ). isSome (contextOf s)) (at-bytes-of .bytes-of .ensures)) ∙ w .0 .taken, w .3 ∙ w .2 .ensures ∙ ap (λ (s : List ℕ). isSome (termOf s)) (w .1 .ensures)))
-    (λ w. inr (sym (c .before .before .is-context .ensures ∙ ap (λ (s : List ℕ). isSome (contextOf s)) (at-bytes-of .bytes-of .ensures)) ∙ w .0 .left, w .1 ∙ w .0 .left))
+    (λ w. inl (
+      sym (c .before .before .is-context .ensures ∙ ap (λ (s : List ℕ). isSome (contextOf s)) (at-bytes-of .bytes-of .ensures))
+          ∙ w .0 .taken,
+      w .3 ∙ w .2 .ensures ∙ ap (λ (s : List ℕ). isSome (termOf s)) (w .1 .ensures),
+    ))
+    (λ w. inr (
+      sym (c .before .before .is-context .ensures ∙ ap (λ (s : List ℕ). isSome (contextOf s)) (at-bytes-of .bytes-of .ensures))
+          ∙ w .0 .left,
+      w .1 ∙ w .0 .left,
+    ))
     (c .before .if1 .came))
     (c .if2 .left)
 
