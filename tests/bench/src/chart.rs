@@ -1,7 +1,7 @@
 //! The chart: time a step against letters, both on logarithmic axes, as an SVG picture.
 
 use crate::reducing::{at_size, Timed};
-use crate::terms::{NESTED, SIZES};
+use crate::terms::{LARGE, NESTED, SIZES};
 
 const WIDTH: f64 = 960.0;
 const HEIGHT: f64 = 600.0;
@@ -10,9 +10,9 @@ const LEFT: f64 = 96.0;
 const RIGHT: f64 = 740.0;
 const TOP: f64 = 96.0;
 const BOTTOM: f64 = 520.0;
-/// Letters and nanoseconds at the edges.
+/// Letters at the left and right edges, nanoseconds at the bottom.
 const LETTERS: [f64; 2] = [50.0, 20_000.0];
-const TIMES: [f64; 2] = [10.0, 200_000.0];
+const LOWEST: f64 = 10.0;
 
 const INK: &str = "#1f2933";
 const FAINT: &str = "#5f6c7b";
@@ -39,10 +39,6 @@ fn share(value: f64, [low, high]: [f64; 2]) -> f64 {
 
 fn x(letters: f64) -> f64 {
     LEFT + (RIGHT - LEFT) * share(letters, LETTERS)
-}
-
-fn y(time: f64) -> f64 {
-    BOTTOM - (BOTTOM - TOP) * share(time, TIMES)
 }
 
 fn words(x: f64, y: f64, style: &str, words: &str) -> String {
@@ -77,75 +73,84 @@ fn with_commas(letters: usize) -> String {
     }
 }
 
-/// The grid with what stands at its lines.
-fn axes() -> String {
-    let grid = format!("stroke=\"{GRID}\"");
-    let label = format!("fill=\"{FAINT}\" font-size=\"14\"");
-    let mut drawn = String::new();
-    for time in [10.0, 100.0, 1e3, 1e4, 1e5] {
-        drawn += &line([LEFT, y(time)], [RIGHT, y(time)], &grid);
-        drawn += &words(LEFT - 12.0, y(time) + 5.0, &format!("{label} text-anchor=\"end\""), &in_units(time));
+/// The plot of what was timed, up to a time that lies above all of them.
+struct Plot<'a> {
+    nested: &'a [Timed],
+    highest: f64,
+}
+
+impl<'a> Plot<'a> {
+    fn new(nested: &'a [Timed]) -> Self {
+        let times = nested.iter().flat_map(|timed| SERIES.iter().map(|series| (series.time)(timed)));
+        Plot { nested, highest: times.fold(1e5, f64::max) * 1.2 }
     }
-    for letters in SIZES {
-        let at = x(letters as f64);
-        drawn += &line([at, TOP], [at, BOTTOM], &grid);
-        drawn += &words(at, BOTTOM + 22.0, &format!("{label} text-anchor=\"middle\""), &with_commas(letters));
+
+    fn y(&self, time: f64) -> f64 {
+        BOTTOM - (BOTTOM - TOP) * share(time, [LOWEST, self.highest])
     }
-    drawn += &line([LEFT, BOTTOM], [RIGHT, BOTTOM], &format!("stroke=\"{FAINT}\""));
-    drawn
-        + &words(
-            (LEFT + RIGHT) / 2.0,
-            BOTTOM + 48.0,
-            &format!("{label} text-anchor=\"middle\""),
-            "letters of the term",
-        )
-}
 
-/// The geometric mean of the six shapes at a size.
-fn mean(nested: &[Timed], series: &Series, letters: usize) -> f64 {
-    let logs = NESTED.iter().map(|(name, _)| (series.time)(at_size(nested, name, letters)).ln());
-    (logs.sum::<f64>() / NESTED.len() as f64).exp()
-}
-
-fn thin_lines(nested: &[Timed], series: &Series) -> String {
-    let style = format!("stroke=\"{}\" stroke-width=\"1.2\" stroke-opacity=\"0.32\"", series.colour);
-    let of_shape = |name: &str| {
-        let point = |letters: usize| (x(letters as f64), y((series.time)(at_size(nested, name, letters))));
-        path(&SIZES.map(point), &style)
-    };
-    NESTED.iter().map(|(name, _)| of_shape(name)).collect()
-}
-
-fn thick_line(nested: &[Timed], series: &Series) -> String {
-    let points = SIZES.map(|letters| (x(letters as f64), y(mean(nested, series, letters))));
-    let dot = |(x, y): &(f64, f64)| {
-        format!("<circle cx=\"{x:.1}\" cy=\"{y:.1}\" r=\"4\" fill=\"{}\"/>\n", series.colour)
-    };
-    path(&points, &format!("stroke=\"{}\" stroke-width=\"3\"", series.colour))
-        + &points.iter().map(dot).collect::<String>()
-}
-
-/// The name beside the end of each thick line, moved apart where two would touch.
-fn labels(nested: &[Timed]) -> String {
-    const APART: f64 = 62.0;
-    let last = SIZES[SIZES.len() - 1];
-    let mut ends: Vec<(f64, f64, &Series)> = SERIES
-        .iter()
-        .map(|series| (mean(nested, series, last), series))
-        .map(|(time, series)| (y(time), time, series))
-        .collect();
-    ends.sort_by(|one, two| one.0.total_cmp(&two.0));
-    let mut drawn = String::new();
-    let mut free = f64::NEG_INFINITY;
-    for (wanted, time, series) in ends {
-        let at = wanted.max(free);
-        free = at + APART;
-        let (left, colour) = (RIGHT + 18.0, series.colour);
-        let name = format!("{}: {}", series.name, in_units(time));
-        drawn += &words(left, at, &format!("fill=\"{colour}\" font-size=\"17\" font-weight=\"bold\""), &name);
-        drawn += &words(left, at + 19.0, &format!("fill=\"{FAINT}\" font-size=\"13\""), series.note);
+    /// The grid with what stands at its lines.
+    fn axes(&self) -> String {
+        let grid = format!("stroke=\"{GRID}\"");
+        let label = format!("fill=\"{FAINT}\" font-size=\"14\"");
+        let mut drawn = String::new();
+        for time in [10.0, 100.0, 1e3, 1e4, 1e5] {
+            let at = self.y(time);
+            drawn += &line([LEFT, at], [RIGHT, at], &grid);
+            drawn += &words(LEFT - 12.0, at + 5.0, &format!("{label} text-anchor=\"end\""), &in_units(time));
+        }
+        for letters in SIZES {
+            let at = x(letters as f64);
+            drawn += &line([at, TOP], [at, BOTTOM], &grid);
+            drawn += &words(at, BOTTOM + 22.0, &format!("{label} text-anchor=\"middle\""), &with_commas(letters));
+        }
+        drawn += &line([LEFT, BOTTOM], [RIGHT, BOTTOM], &format!("stroke=\"{FAINT}\""));
+        let middle = (LEFT + RIGHT) / 2.0;
+        drawn + &words(middle, BOTTOM + 48.0, &format!("{label} text-anchor=\"middle\""), "letters of the term")
     }
-    drawn
+
+    /// The geometric mean of the six shapes at a size.
+    fn mean(&self, series: &Series, letters: usize) -> f64 {
+        let logs = NESTED.iter().map(|(name, _)| (series.time)(at_size(self.nested, name, letters)).ln());
+        (logs.sum::<f64>() / NESTED.len() as f64).exp()
+    }
+
+    fn thin_lines(&self, series: &Series) -> String {
+        let style = format!("stroke=\"{}\" stroke-width=\"1.2\" stroke-opacity=\"0.32\"", series.colour);
+        let of_shape = |name: &str| {
+            let time = |letters: usize| (series.time)(at_size(self.nested, name, letters));
+            path(&SIZES.map(|letters| (x(letters as f64), self.y(time(letters)))), &style)
+        };
+        NESTED.iter().map(|(name, _)| of_shape(name)).collect()
+    }
+
+    fn thick_line(&self, series: &Series) -> String {
+        let colour = series.colour;
+        let points = SIZES.map(|letters| (x(letters as f64), self.y(self.mean(series, letters))));
+        let dot =
+            |(x, y): &(f64, f64)| format!("<circle cx=\"{x:.1}\" cy=\"{y:.1}\" r=\"4\" fill=\"{colour}\"/>\n");
+        path(&points, &format!("stroke=\"{colour}\" stroke-width=\"3\""))
+            + &points.iter().map(dot).collect::<String>()
+    }
+
+    /// The name beside the end of each thick line, moved apart where two would touch.
+    fn labels(&self) -> String {
+        const APART: f64 = 62.0;
+        let times = SERIES.iter().map(|series| (self.mean(series, LARGE), series));
+        let mut ends: Vec<(f64, &Series)> = times.collect();
+        ends.sort_by(|one, two| two.0.total_cmp(&one.0));
+        let mut drawn = String::new();
+        let mut free = f64::NEG_INFINITY;
+        for (time, series) in ends {
+            let at = self.y(time).max(free);
+            free = at + APART;
+            let (left, colour) = (RIGHT + 18.0, series.colour);
+            let name = format!("{}: {}", series.name, in_units(time));
+            drawn += &words(left, at, &format!("fill=\"{colour}\" font-size=\"17\" font-weight=\"bold\""), &name);
+            drawn += &words(left, at + 19.0, &format!("fill=\"{FAINT}\" font-size=\"13\""), series.note);
+        }
+        drawn
+    }
 }
 
 fn titles() -> String {
@@ -161,14 +166,15 @@ fn titles() -> String {
 }
 
 pub fn svg(nested: &[Timed]) -> String {
-    let thin: String = SERIES.iter().map(|series| thin_lines(nested, series)).collect();
-    let thick: String = SERIES.iter().map(|series| thick_line(nested, series)).collect();
+    let plot = Plot::new(nested);
+    let thin: String = SERIES.iter().map(|series| plot.thin_lines(series)).collect();
+    let thick: String = SERIES.iter().map(|series| plot.thick_line(series)).collect();
     format!(
         "<svg xmlns=\"http://www.w3.org/2000/svg\" viewBox=\"0 0 {WIDTH} {HEIGHT}\" width=\"{WIDTH}\" height=\"{HEIGHT}\" \
          font-family=\"Helvetica, Arial, DejaVu Sans, sans-serif\">\n\
          <rect width=\"100%\" height=\"100%\" fill=\"white\"/>\n{}{}{thin}{thick}{}</svg>\n",
         titles(),
-        axes(),
-        labels(nested)
+        plot.axes(),
+        plot.labels()
     )
 }
