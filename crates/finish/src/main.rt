@@ -50,8 +50,8 @@ fn answer(failed: bool, line: Line, term: &mut [u8], work: &mut [u8], out: &mut 
 }
 
 fn main() {
-    let mut term = [0u8; 16384];
-    let mut work = [0u8; 16384];
+    let mut term = [0u8; calculus::AREA_LIMIT];
+    let mut work = [0u8; calculus::AREA_LIMIT];
     let mut out = [0u8; 16512];
     let mut failed = false;
     let line = feed_all(&mut term, &mut failed);

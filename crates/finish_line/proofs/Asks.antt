@@ -8,6 +8,7 @@ use mathlib.Core.Option.{Option, none, some}
 use mathlib.Core.List.{List, [], _∷_, _++_, append-nil}
 use lib.ListN.{length, take, length-take}
 use lib.Seq.{take-take, take-length}
+use Rattle.calculus.specs.Limits.{areaLimit, fuelLimit}
 use Rattle.slices.specs.Split.{lineFeed}
 use Rattle.finish_line.specs.declared.Line.{Line}
 use Rattle.finish_line.specs.declared.Line.the-variants.{InFuel, InArea, InTerm, Ended, Other}
@@ -120,15 +121,15 @@ module _ (buffer : List ℕ) (chunks : List (List ℕ)) where
     pub request-whole : length term ≤ lengthCap → length term ≤ length buffer → take (length term) (after .buffer) ≡ term
     request-whole counted room = request-read (length term) (omega arith) room ∙ take-length term
 
--- the caps change no reply: fuel up to 1,000,000 is exact and more stays more, and so with a length and 16,384, the largest area
-pub fuel-exact : (fuel : ℕ) → fuel ≤ 1000000 → min fuel fuelCap ≡ fuel
+-- the caps change no reply: fuel up to its limit is exact and more stays more, and so with a length and the largest area
+pub fuel-exact : (fuel : ℕ) → fuel ≤ fuelLimit → min fuel fuelCap ≡ fuel
 fuel-exact fuel h = omega arith
 
-pub fuel-over : (fuel : ℕ) → 1000000 < fuel → 1000000 < min fuel fuelCap
+pub fuel-over : (fuel : ℕ) → fuelLimit < fuel → fuelLimit < min fuel fuelCap
 fuel-over fuel h = omega arith
 
-pub length-exact : (n : ℕ) → n ≤ 16384 → min n lengthCap ≡ n
+pub length-exact : (n : ℕ) → n ≤ areaLimit → min n lengthCap ≡ n
 length-exact n h = omega arith
 
-pub length-over : (area n : ℕ) → area ≤ 16384 → area < n → area < min n lengthCap
+pub length-over : (area n : ℕ) → area ≤ areaLimit → area < n → area < min n lengthCap
 length-over area n h k = omega arith

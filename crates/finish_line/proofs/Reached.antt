@@ -11,6 +11,7 @@ use lib.Dec.{leb, ltb, eqb}
 use borrow.Author.Tests.{eqb-true, eqb-false, ltb-true, ltb-false, leb-true, le-leb, lt-leb}
 use lib.ListN.{length, take, set, length-append}
 use lib.Seq.{append-snoc, take-all, take-append-le}
+use Rattle.calculus.specs.Limits.{areaLimit}
 use Rattle.slices.specs.Split.{tab, lineFeed}
 use Rattle.slices.specs.Numeral.{digit0, decimalOf}
 use Rattle.slices.proofs.Splitting.{Free, free-append}
@@ -85,10 +86,10 @@ size-capped n = go (decLe n areaCap)
         let large : areaCap ≤ min n areaCap = omega arith in
         ap₂ _&&_
         (le-leb 1 (min n areaCap) (omega arith) ∙ sym (le-leb 1 n (omega arith)))
-        (lt-leb (min n areaCap) 16384 large ∙ sym (lt-leb n 16384 (omega arith)))
+        (lt-leb (min n areaCap) areaLimit large ∙ sym (lt-leb n areaLimit (omega arith)))
 
-size-most : (n : ℕ) → isAreaSize n ≡ true → n ≤ 16384
-size-most n e = let (low, high) = and-both (leb 1 n) (leb n 16384) e in leb-true n 16384 high
+size-most : (n : ℕ) → isAreaSize n ≡ true → n ≤ areaLimit
+size-most n e = let (low, high) = and-both (leb 1 n) (leb n areaLimit) e in leb-true n areaLimit high
 
 -- ---- a byte more
 
@@ -144,7 +145,7 @@ module _ (d p buffer : List ℕ) (b : ℕ) where
       sized : b ≡ tab → (area : ℕ) → Numbered areaCap (r .second) area → (t : Bool) → isAreaSize area ≡ t
           → Reached d (p ++ (b ∷ [])) (areaIf t fuel area) buffer
       sized here area n true e =
-          let most : area ≤ 16384 = size-most area e in
+          let most : area ≤ areaLimit = size-most area e in
           let exact : n .number ≡ area = omega (arith, n .capped) in
           record {
             first = r .first;

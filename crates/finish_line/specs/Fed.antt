@@ -5,6 +5,7 @@ use mathlib.Core.Bool.{Bool, true, false, cond}
 use mathlib.Core.List.{List, [], _∷_}
 use lib.Dec.{ltb, eqb}
 use lib.ListN.{set}
+use Rattle.calculus.specs.Limits.{areaLimit, fuelLimit}
 use Rattle.slices.specs.Split.{tab, lineFeed}
 use Rattle.decimals.specs.declared.read.Decimal.{Decimal}
 use Rattle.decimals.specs.declared.read.Decimal.the-variants.{Empty}
@@ -17,13 +18,13 @@ use Rattle.finish_line.specs.declared.Line.the-variants.{InFuel, InArea,
 
 -- fuel from here on is refused alike (number 4), and so are area sizes (number 19) and term lengths (number 3)
 abbrev pub fuelCap : ℕ
-fuelCap = 1000001
+fuelCap = suc fuelLimit
 
 abbrev pub areaCap : ℕ
-areaCap = 16385
+areaCap = suc areaLimit
 
 abbrev pub lengthCap : ℕ
-lengthCap = 16385
+lengthCap = suc areaLimit
 
 -- what one byte does in the fuel field: a tab ends it, and it has to hold a number
 abbrev pub fuelRead : Parsed → Line

@@ -5,6 +5,7 @@ use mathlib.Core.Bool.{Bool, true, false, _&&_}
 use mathlib.Core.List.{List, [], _∷_}
 use mathlib.Core.Option.{Option, none, some}
 use lib.Dec.{leb}
+use Rattle.calculus.specs.Limits.{areaLimit}
 use Rattle.slices.specs.Split.{lineFeed, split, fields}
 use Rattle.slices.specs.Numeral.{decimalOf}
 
@@ -18,7 +19,7 @@ requestIf false r = none
 
 -- whether an area size is in range
 abbrev pub isAreaSize : ℕ → Bool
-isAreaSize n = leb 1 n && leb n 16384
+isAreaSize n = leb 1 n && leb n areaLimit
 
 -- the two numbers and the term, if the area size is in range
 abbrev pub requestWith : Option ℕ → Option ℕ → List ℕ → Option Request
