@@ -1,4 +1,3 @@
-pub mod Table
 pub mod Scan
 pub mod Whole
 pub mod Numbers

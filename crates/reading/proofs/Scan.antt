@@ -1,4 +1,4 @@
--- What reading does at one byte, as laws over plain variables: these carry the loop of `read`.
+-- What reading does at one byte, as laws over plain variables: these carry the loop of `read` and the tests of `arity`.
 -- Assumes nothing.
 use Prim.Native.Nat.{ℕ, zero, suc, _+_, _-_, _<_, _≤_}
 use native.Mathlib.Nat.{add-zero}
@@ -91,6 +91,29 @@ pub not-yet-whole : (owing at : ℕ) (s : List ℕ) → length s ≤ at → (owi
 not-yet-whole zero at s h owes = absurd (owes refl)
 not-yet-whole (suc k) at s h owes = rw (drop-of-length-le s h)
 
+-- the count of a letter's byte
+pub arity-byte : (l : Letter) (b : ℕ) → b ≡ byte l → owed l 0 ≡ arityOf b
+unfolding arityOf letterOf
+arity-byte l b e = sym (ap (λ (n : ℕ). arityOfLetter (find n alphabet)) e ∙ known l)
+  where
+    known : (l : Letter) → arityOfLetter (find (byte l) alphabet) ≡ owed l 0
+    known Letter.J = refl
+    known Letter.R = refl
+    known Letter.H = refl
+    known Letter.A = refl
+    known Letter.I = refl
+    known Letter.B = refl
+    known Letter.stop = refl
+
+-- a byte that is none of the letters' has the count 3
+pub arity-none : (b : ℕ) → ((l : Letter) → b ≡ byte l → ⊥) → 3 ≡ arityOf b
+unfolding arityOf letterOf
+arity-none b other = sym (ap arityOfLetter (missing alphabet))
+  where
+    missing : (ls : List Letter) → find b ls ≡ none
+    missing [] = refl
+    missing (l ∷ ls) = ap (λ (t : Bool). chosen t l (find b ls)) (ne-eqb b (byte l) (other l)) ∙ missing ls
+
 -- no letter takes more than two terms
 pub arity-few : (b parts : ℕ) → parts ≡ arityOf b → (parts ≡ 3 → ⊥) → parts < 3
 unfolding arityOf
@@ -104,3 +127,15 @@ arity-few b parts p e = rw p (go (letterOf b) (λ q. e (p ∙ q)))
 pub start : (s : List ℕ) → readingFrom 1 0 (drop 0 s) ≡ readingOf s
 unfolding readingOf
 start s = refl
+
+-- a byte that is none of the seven, letter by letter
+pub other :
+    (b : ℕ) →
+    (b ≡ 74 → ⊥) → (b ≡ 73 → ⊥) → (b ≡ 82 → ⊥) → (b ≡ 72 → ⊥) → (b ≡ 65 → ⊥) → (b ≡ 66 → ⊥) → (b ≡ 46 → ⊥) → (l : Letter) → b ≡ byte l → ⊥
+other b j i r h a p s Letter.J e = j e
+other b j i r h a p s Letter.R e = r e
+other b j i r h a p s Letter.H e = h e
+other b j i r h a p s Letter.A e = a e
+other b j i r h a p s Letter.I e = i e
+other b j i r h a p s Letter.B e = p e
+other b j i r h a p s Letter.stop e = s e

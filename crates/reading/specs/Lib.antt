@@ -2,4 +2,3 @@ pub mod Reply
 pub mod Reading
 pub mod Answer
 pub mod Arity
-pub mod Table

@@ -1,4 +1,5 @@
 // Reading: whether bytes are the text of one term.
+use calculus::letters;
 ghost use mathlib.Core.Path.{_≡_};
 ghost use Rattle.reading.specs.Reply.{numberIn, placeIn};
 ghost use Rattle.reading.specs.Reading.{readingOf};
@@ -68,16 +69,30 @@ pub fn read(s: &[u8]) -> Reading
 // What stands in the place of an arity for a byte that is no letter.
 pub const NO_LETTER: usize = 3;
 
-// The digit at index b is the arity of byte b: a row has 64 bytes, `.` stands in the first, the other letters in the second.
-const ARITIES: [u8; 256] = *b"\
-    3333333333333333333333333333333333333333333333233333333333333333\
-    3223333320033333331333333333333333333333333333333333333333333333\
-    3333333333333333333333333333333333333333333333333333333333333333\
-    3333333333333333333333333333333333333333333333333333333333333333";
-
-// How many terms the letter of a byte takes.
+// How many terms the letter of a byte takes. The compiler makes one table of the comparisons.
 pub fn arity(b: u8) -> usize
     ensures { λ r. ⌜ r ≡ arityOf b ⌝ }
 {
-    (ARITIES[b as usize] - b'0') as usize
+    if b == letters::J {
+        return 0;
+    }
+    if b == letters::I {
+        return 0;
+    }
+    if b == letters::R {
+        return 1;
+    }
+    if b == letters::H {
+        return 2;
+    }
+    if b == letters::A {
+        return 2;
+    }
+    if b == letters::B {
+        return 2;
+    }
+    if b == letters::STOP {
+        return 2;
+    }
+    NO_LETTER
 }

@@ -1,21 +1,34 @@
--- `reading::arity` meets its contract: the table's entry is the digit of the arity (`Table`). Assumes nothing.
-use native.Mathlib.Omega.{arith}
-use borrow.Author.Needs.{needs}
-use Rattle.reading.proofs.Table.{from-zero, small, value}
+-- `reading::arity` meets its contract: each test names a letter, and `Scan` has its count. Assumes nothing.
+use Rattle.calculus.specs.Letter.{Letter}
+use Rattle.reading.proofs.Scan.{arity-byte, arity-none, other}
 use Rattle.reading.proofs.arity.Statement.{statement}
 use Rattle.reading.proofs.arity.Tie as tie
 
-array-read-result : tie.Need-array-read-result
-array-read-result c = search needs
-
-sub-result : tie.Need-sub-result
-sub-result c = from-zero (c .args .b) (search needs)
-
-cast-result : tie.Need-cast-result
-cast-result c = let least = small (c .args .b) (search needs) in omega (arith, least)
-
 returns : tie.Need-returns
-returns c = value (c .args .b) (search needs)
+returns c = arity-byte Letter.J (c .before .args .b) (c .if1 .taken)
+
+returns-2 : tie.Need-returns-2
+returns-2 c = arity-byte Letter.I (c .before .before .args .b) (c .if2 .taken)
+
+returns-3 : tie.Need-returns-3
+returns-3 c = arity-byte Letter.R (c .before .before .before .args .b) (c .if3 .taken)
+
+returns-4 : tie.Need-returns-4
+returns-4 c = arity-byte Letter.H (c .before .before .before .before .args .b) (c .if4 .taken)
+
+returns-5 : tie.Need-returns-5
+returns-5 c = arity-byte Letter.A (c .before .before .before .before .before .args .b) (c .if5 .taken)
+
+returns-6 : tie.Need-returns-6
+returns-6 c = arity-byte Letter.B (c .before .before .before .before .before .before .args .b) (c .if6 .taken)
+
+returns-7 : tie.Need-returns-7
+returns-7 c = arity-byte Letter.stop (c .before .before .before .before .before .before .before .args .b) (c .if7 .taken)
+
+returns-8 : tie.Need-returns-8
+returns-8 c = arity-none (c .before .before .before .before .before .before .before .args .b) (other (c .before .before .before .before .before .before .before .args .b) (c .before .before .before .before .before .before .if1 .left) (c .before .before .before .before .before .if2 .left) (c .before .before .before .before .if3 .left) (c .before .before .before .if4 .left) (c .before .before .if5 .left) (c .before .if6 .left) (c .if7 .left))
 
 pub arity-spec : {M : Type 1} → statement M
-arity-spec = tie.close (tie.spec array-read-result sub-result cast-result returns)
+arity-spec =
+    tie.close
+    (tie.spec returns returns-2 returns-3 returns-4 returns-5 returns-6 returns-7 returns-8)
