@@ -33,7 +33,7 @@ use Rattle.derivation_files.proofs.Checks.{checks-as, checks-as-only}
 use Rattle.derivation_files.proofs.LaidOut.{laid-out}
 use Rattle.matching.proofs.Claims.{match-exactly}
 use Rattle.matching.proofs.Calls.{match-refused}
-use Rattle.controller.proofs.InC.{in-c}
+use Rattle.codes.proofs.InC.{in-c}
 use Rattle.promises.specs.Demands.{StepRefuses, FinishRefuses, SteppedTo, RanTo, ComparedTo, Demands}
 
 step-refused :

@@ -31,7 +31,7 @@ use Rattle.derivation_files.specs.Checks.{ChecksAs}
 use Rattle.derivation_files.specs.Accepted.{Accepted, Claims}
 use Rattle.derivation_files.specs.LaidOut.{LaidOut}
 use Rattle.matching.specs.Matching.{matchingOf}
-use Rattle.controller.specs.Decoding.{InC}
+use Rattle.codes.specs.Decoding.{InC}
 
 -- the refusals of stepping: 1 to 3 at place 0, and reading's own of the first len bytes
 abbrev pub StepRefuses : (len number place : ℕ) → Type 0
@@ -105,7 +105,8 @@ pub record Demands : Type 0 where
   pub checking-refuses : (file : List ℕ) (number line : ℕ) → checkingOf file ≡ Reply.refused number line → CheckRefuses file number line
   pub matching-refuses :
       (first second : List ℕ) (number line : ℕ) →
-      matchingOf first second ≡ Reply.refused number line → CheckRefuses first number line ⊎ CheckRefuses second number line  -- what a caller in C decodes is the operation's reply, and the areas are as the operation leaves them
+      matchingOf first second ≡ Reply.refused number line → CheckRefuses first number line ⊎ CheckRefuses second number line
+  -- what a caller in C decodes is the operation's reply, and the areas are as the operation leaves them
   pub in-c : InC
   -- ---- 2: each step, outcome, count and accepted derivation is the one that the papers name
   -- reading's reply is the one that its relation gives

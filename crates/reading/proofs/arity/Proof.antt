@@ -26,7 +26,16 @@ returns-7 : tie.Need-returns-7
 returns-7 c = arity-byte Letter.stop (c .before .before .before .before .before .before .before .args .b) (c .if7 .taken)
 
 returns-8 : tie.Need-returns-8
-returns-8 c = arity-none (c .before .before .before .before .before .before .before .args .b) (other (c .before .before .before .before .before .before .before .args .b) (c .before .before .before .before .before .before .if1 .left) (c .before .before .before .before .before .if2 .left) (c .before .before .before .before .if3 .left) (c .before .before .before .if4 .left) (c .before .before .if5 .left) (c .before .if6 .left) (c .if7 .left))
+returns-8 c =
+    let at-if6 = c .before in
+    let at-if5 = at-if6 .before in
+    let at-if4 = at-if5 .before in
+    let at-if3 = at-if4 .before in
+    let at-if2 = at-if3 .before in
+    let at-if1 = at-if2 .before in
+    let b = at-if1 .before .args .b in
+    arity-none b
+    (other b (at-if1 .if1 .left) (at-if2 .if2 .left) (at-if3 .if3 .left) (at-if4 .if4 .left) (at-if5 .if5 .left) (at-if6 .if6 .left) (c .if7 .left))
 
 pub arity-spec : {M : Type 1} → statement M
 arity-spec =

@@ -10,8 +10,8 @@ use Rattle.reading.specs.Reply.{Reply, Refuses}
 use Rattle.stepping.specs.Stepping as stepping
 use Rattle.finishing.specs.Finishing as finishing
 use Rattle.comparing.specs.Comparing as comparing
-use Rattle.controller.specs.Encoding.{Parts, placeLimit, encode, outcomeCode, compareParts, matchParts}
-use Rattle.controller.specs.Decoding.{
+use Rattle.codes.specs.Encoding.{Parts, placeLimit, encode, outcomeCode, compareParts, matchParts}
+use Rattle.codes.specs.Decoding.{
   codePart,
   placePart,
   valuePart,

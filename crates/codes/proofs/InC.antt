@@ -28,7 +28,7 @@ use Rattle.derivation_files.proofs.Listed.{checking-refused}
 use Rattle.derivation_files.proofs.Files.{accepted-exactly}
 use Rattle.matching.specs.Matching.{matchingOf}
 use Rattle.matching.proofs.Calls.{match-refused}
-use Rattle.controller.specs.Encoding.{
+use Rattle.codes.specs.Encoding.{
   placeLimit,
   readNumber,
   stepNumber,
@@ -40,7 +40,7 @@ use Rattle.controller.specs.Encoding.{
   codedFinish,
   codedCompare,
 }
-use Rattle.controller.specs.Decoding.{
+use Rattle.codes.specs.Decoding.{
   placePart,
   valuePart,
   steppedIn,
@@ -55,7 +55,7 @@ use Rattle.controller.specs.Decoding.{
   decodedMatch,
   InC,
 }
-use Rattle.controller.proofs.Decoding.{
+use Rattle.codes.proofs.Decoding.{
   wide-refused,
   refused-range,
   refused-decoded,

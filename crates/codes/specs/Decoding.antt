@@ -14,7 +14,7 @@ use Rattle.finishing.specs.Finishing as finishing
 use Rattle.comparing.specs.Comparing as comparing
 use Rattle.derivation_files.specs.Checking.{checkingOf}
 use Rattle.matching.specs.Matching.{matchingOf}
-use Rattle.controller.specs.Encoding.{placeLimit, readNumber, checkNumber, matchNumber, codedStep, codedFinish, codedCompare}
+use Rattle.codes.specs.Encoding.{placeLimit, readNumber, checkNumber, matchNumber, codedStep, codedFinish, codedCompare}
 
 -- ---- the macros of include/controller.h
 

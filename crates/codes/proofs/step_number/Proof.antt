@@ -1,9 +1,9 @@
--- `controller::step_number` meets its contract: an answer has its number by definition, every other case is a refusal. Assumes nothing.
-use Rattle.controller.specs.Encoding.{stepNumber}
-use Rattle.controller.proofs.Refusals.{stepping-refusal}
+-- `codes::step_number` meets its contract: an answer has its number by definition, every other case is a refusal. Assumes nothing.
+use Rattle.codes.specs.Encoding.{stepNumber}
+use Rattle.codes.proofs.Refusals.{stepping-refusal}
 use borrow.Author.Needs.{needs}
-use Rattle.controller.proofs.step_number.Statement.{statement}
-use Rattle.controller.proofs.step_number.Tie as tie
+use Rattle.codes.proofs.step_number.Statement.{statement}
+use Rattle.codes.proofs.step_number.Tie as tie
 
 enum-known-answer : tie.Need-enum-known-answer
 enum-known-answer c = search needs

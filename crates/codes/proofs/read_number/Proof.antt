@@ -1,9 +1,9 @@
--- `controller::read_number` meets its contract: an answer has its number by definition, every other case is a refusal. Assumes nothing.
-use Rattle.controller.specs.Encoding.{readNumber}
-use Rattle.controller.proofs.Refusals.{reading-refusal}
+-- `codes::read_number` meets its contract: an answer has its number by definition, every other case is a refusal. Assumes nothing.
+use Rattle.codes.specs.Encoding.{readNumber}
+use Rattle.codes.proofs.Refusals.{reading-refusal}
 use borrow.Author.Needs.{needs}
-use Rattle.controller.proofs.read_number.Statement.{statement}
-use Rattle.controller.proofs.read_number.Tie as tie
+use Rattle.codes.proofs.read_number.Statement.{statement}
+use Rattle.codes.proofs.read_number.Tie as tie
 
 enum-known-answer : tie.Need-enum-known-answer
 enum-known-answer c = search needs
