@@ -71,10 +71,11 @@ loop-again c =
     let at-loop-test = at-step-once .before .before .before in
     let at-loop = at-loop-test .before in
     let once = at-step-once .step-once in
-    let done = c .before .stepping .given in
-    (at-step (at-loop .loop .inv .0) (once .result) (at-loop-test .loop-test .taken) (once .ensures) (done .0 .0) (done .0 .1 .0) (once .last .1 .1 .0)
-    (done .1) (once .kept .0) (once .kept .1 .1 .0),
-     once .kept .1 .1 .0 ∙ at-loop .loop .inv .1)
+    let done = c .before .stepping .given in (
+      at-step (at-loop .loop .inv .0) (once .result) (at-loop-test .loop-test .taken) (once .ensures) (done .0 .0) (done .0 .1 .0) (once .last .1 .1 .0)
+          (done .1) (once .kept .0) (once .kept .1 .1 .0),
+      once .kept .1 .1 .0 ∙ at-loop .loop .inv .1,
+    )
 
 slice-reshare-prefix-has-stop : tie.Need-slice-reshare-prefix-has-stop Inv-loop μ-loop
 slice-reshare-prefix-has-stop c = c .before .loop .inv .0 .ready .held .within
