@@ -1,22 +1,30 @@
 /*
- * The engine, for the controller's firmware.
+ * The engine for the controller's firmware: six functions on byte pointers and numbers.
  *
- * Three functions on plain numbers and byte pointers. Each call ends, reads and writes nothing but what
- * is lent to it, and answers one number:
+ *     controller_read       is this text one term?                      answers its size
+ *     controller_step       one step of a term, in place                answers the rule used
+ *     controller_finish     steps until the term has none left          answers how many
+ *     controller_compare    have two terms the same result?             answers yes, no or not known
+ *     controller_check      does every line of a derivation follow?     answers how many lines
+ *     controller_match      do two derivations claim the same type?     answers yes or no
  *
- *     bits  0 to  7   code    which answer this is (see below)
- *     bits  8 to 31   value   the place or line of a refusal, a rule's number, a count of steps or lines
- *     bits 32 to 63   size    bytes of the term now in the area; 0 where there is none
+ * NEEDS
+ *   Each buffer is lent at its true length and lies apart from the other buffers of the call. Until the call
+ *   returns nobody else touches it: no other thread, no interrupt handler, no DMA. No engine can test this;
+ *   everything else about the arguments is tested, in the order that stands with each function.
+ *   A buffer of length 0 may come as any pointer, a null pointer too (see the end of this file).
+ *   The stack: 1 MB for the calling thread is enough for every call (docs/FIRMWARE.md has what was measured).
  *
- * A refused call changes no lent byte. After any other call of step or finish, the area holds the term and
- * then zeros to its end, and the whole work area holds zeros.
+ * PROMISES
+ *   Every call returns. It reads and writes nothing but the buffers lent to it and its stack, keeps nothing
+ *   between calls and allocates nothing, so several threads may call at once, each with buffers of its own.
+ *   A refused call has changed no lent byte. After any other call that lends a term area, the area holds a
+ *   term and then zeros to its end, and the work area holds zeros from end to end.
+ *   What a call answers and leaves is proved for all inputs; docs/PROMISES.md says where.
  *
- * What the engine cannot test is the caller's duty: each area is lent at its true length, lies apart from
- * the others, and is left alone until the call returns. A length of 0 may come with any pointer that is
- * not null.
- *
- * What is promised here is proved; docs/PROMISES.md says where, and docs/NUMBERS.md what to do about each
- * number.
+ * RETURNS
+ *   One number, taken apart by the macros below. Its lowest eight bits are a code. Codes below 100 refuse the
+ *   call; docs/NUMBERS.md says for each what to do about it.
  */
 #ifndef CONTROLLER_H
 #define CONTROLLER_H
@@ -28,71 +36,217 @@
 extern "C" {
 #endif
 
-/* The parts of a reply. */
+/* ---- The parts of a reply ------------------------------------------------------------------------------ */
+
+/* Which answer this is: one of the constants below. */
 #define CONTROLLER_CODE(reply) ((unsigned)((reply) & 0xff))
-#define CONTROLLER_VALUE(reply) ((uint32_t)(((reply) >> 8) & 0xffffff))
-#define CONTROLLER_SIZE(reply) ((uint32_t)((reply) >> 32))
 
-/* Refusals. The value is the place (a byte of the term, counted from 0) or the line (counted from 1). */
-enum {
-    CONTROLLER_AREA_TOO_LONG = 1,    /* the term area is over 16,384 bytes; place 0 */
-    CONTROLLER_WORK_TOO_SHORT = 2,   /* the work area is shorter than the term area; place 0 */
-    CONTROLLER_LENGTH_TOO_LONG = 3,  /* the term's length exceeds the term area; place 0 */
-    CONTROLLER_FUEL_TOO_HIGH = 4,    /* the fuel is over 1,000,000; place 0 */
-    CONTROLLER_NO_LETTER = 5,        /* the byte at that place is not one of the letters J R H A I B . */
-    CONTROLLER_NOT_WHOLE = 6,        /* the term ends at that place and is not yet whole */
-    CONTROLLER_BEYOND = 7,           /* the term is already whole at that place, and a byte stands there */
-    CONTROLLER_FILE_TOO_LONG = 10,   /* the file is over 65,536 bytes; line 0 */
-    CONTROLLER_FILE_EMPTY = 11,      /* the file is empty; line 0 */
-    CONTROLLER_NO_LINE_END = 12,     /* the last byte is not 10; line 0 */
-    CONTROLLER_TOO_MANY_LINES = 13,  /* the file has over 1,024 lines; line 0 */
-    CONTROLLER_NOT_SIX_FIELDS = 14,  /* that line has not six fields */
-    CONTROLLER_MALFORMED = 15,       /* the context, term or type field of that line is not well formed */
-    CONTROLLER_UNKNOWN_RULE = 16,    /* that line names no rule */
-    CONTROLLER_BAD_PREMISE = 17,     /* a premise field of that line is not what its rule has there */
-    CONTROLLER_NO_INSTANCE = 18      /* that line is not an instance of its rule */
-};
-
-/* Answers of controller_step. */
-enum {
-    CONTROLLER_NORMAL = 100,         /* the term has no next step */
-    CONTROLLER_STEP_NO_ROOM = 101,   /* the next term is larger than the area; the term stays */
-    CONTROLLER_STEPPED = 102         /* one step was made; the value is its rule's number, 1 to 11 */
-};
-
-/* Answers of controller_finish. The value is the count of steps made. */
-enum {
-    CONTROLLER_FINISHED = 110,       /* the term reached is normal: it is the result */
-    CONTROLLER_SPENT = 111,          /* the steps made equal the fuel, and the term reached is not normal */
-    CONTROLLER_NO_ROOM = 112         /* the next term is larger than the area; the term reached stays */
-};
-
-/* The answer of controller_check. The value is the number of lines. */
-enum {
-    CONTROLLER_ACCEPTED = 120        /* every line follows; the last one is the claim */
-};
+/* Was the call refused? */
+#define CONTROLLER_REFUSED(reply) (CONTROLLER_CODE(reply) < 100)
 
 /*
- * One step of the term that stands in the first term_size bytes of the area.
- * Refusals, in this order: 1, 2, 3, then 5, 6, 7.
+ * Of a refusal: where the fault is, a byte of the term counted from 0 or a line of the file counted from 1.
+ * Of CONTROLLER_WHOLE: where the term ends, which is its size.
  */
+#define CONTROLLER_PLACE(reply) ((uint64_t)(reply) >> 8)
+
+/* Of any other answer: a rule's number, a count of steps or a count of lines, as stands with the constant. */
+#define CONTROLLER_VALUE(reply) ((uint32_t)(((reply) >> 8) & 0xffffff))
+
+/* Of an answer of controller_step and controller_finish: the size of the term that now stands in the area. */
+#define CONTROLLER_SIZE(reply) ((uint32_t)((reply) >> 32))
+
+/* ---- Limits -------------------------------------------------------------------------------------------- */
+
+enum {
+    CONTROLLER_LARGEST_AREA = 16384, /* bytes of a term area */
+    CONTROLLER_MOST_FUEL = 1000000,  /* steps that one call may make */
+    CONTROLLER_LARGEST_FILE = 65536, /* bytes of a derivation file */
+    CONTROLLER_MOST_LINES = 1024     /* lines of a derivation file */
+};
+
+/* ---- Refusals ------------------------------------------------------------------------------------------ */
+
+/* Of the functions that take a term. */
+enum {
+    CONTROLLER_AREA_TOO_LONG = 1,    /* a term area is longer than CONTROLLER_LARGEST_AREA; place 0 */
+    CONTROLLER_WORK_TOO_SHORT = 2,   /* the work area is shorter than a term area; place 0 */
+    CONTROLLER_LENGTH_TOO_LONG = 3,  /* a term is said to be longer than its area; place 0 */
+    CONTROLLER_FUEL_TOO_HIGH = 4,    /* the fuel is more than CONTROLLER_MOST_FUEL; place 0 */
+    CONTROLLER_NO_LETTER = 5,        /* the byte at that place is none of the letters J R H A I B . */
+    CONTROLLER_NOT_WHOLE = 6,        /* the text ends at that place, and its term has not ended */
+    CONTROLLER_BEYOND = 7            /* the term has ended before that place, and a byte stands there */
+};
+
+/* Of the functions that take a derivation file. */
+enum {
+    CONTROLLER_FILE_TOO_LONG = 10,   /* the file is longer than CONTROLLER_LARGEST_FILE; line 0 */
+    CONTROLLER_FILE_EMPTY = 11,      /* the file has no byte; line 0 */
+    CONTROLLER_NO_LINE_END = 12,     /* the file does not end with a line feed; line 0 */
+    CONTROLLER_TOO_MANY_LINES = 13,  /* the file has more than CONTROLLER_MOST_LINES; line 0 */
+    CONTROLLER_NOT_SIX_FIELDS = 14,  /* that line has more or fewer than six fields */
+    CONTROLLER_MALFORMED = 15,       /* that line's context, term or type is none */
+    CONTROLLER_UNKNOWN_RULE = 16,    /* that line's rule is none of J R H f A I B s */
+    CONTROLLER_BAD_PREMISE = 17,     /* a premise of that line is not what its rule has there */
+    CONTROLLER_NO_INSTANCE = 18      /* that line does not follow by its rule from its premises */
+};
+
+/* ---- The functions and their answers ------------------------------------------------------------------- */
+
+/*
+ * Reads the bytes as the text of one term. They may be any number.
+ *   Refusals, whichever comes first from the left: CONTROLLER_BEYOND, CONTROLLER_NO_LETTER; at the end
+ *   CONTROLLER_NOT_WHOLE.
+ *   Leaves every byte as it was.
+ */
+enum {
+    CONTROLLER_WHOLE = 103           /* it is one; CONTROLLER_PLACE is its size */
+};
+uint64_t controller_read(const uint8_t *bytes, size_t size);
+
+/*
+ * Makes one step of the term that stands in the first term_size bytes of the area.
+ *   The area has at most CONTROLLER_LARGEST_AREA bytes, the work area at least as many as the area. The work
+ *   area may hold anything.
+ *   Refusals, in this order: CONTROLLER_AREA_TOO_LONG, CONTROLLER_WORK_TOO_SHORT, CONTROLLER_LENGTH_TOO_LONG,
+ *   then those of controller_read.
+ */
+enum {
+    CONTROLLER_NORMAL = 100,         /* the term has no next step; it stays */
+    CONTROLLER_STEP_NO_ROOM = 101,   /* the next term is larger than the area; the term stays */
+    CONTROLLER_STEPPED = 102         /* a step was made; CONTROLLER_VALUE is its rule's number, 1 to 11 */
+};
 uint64_t controller_step(uint8_t *area, size_t area_size, size_t term_size, uint8_t *work, size_t work_size);
 
 /*
- * Steps until the term is normal, the steps made equal the fuel, or the next term is larger than the area.
- * Refusals, in this order: 1, 2, 3, 4, then 5, 6, 7.
+ * Makes steps until the term is normal, or as many were made as the fuel allows, or the next term is larger
+ * than the area: tested in this order before each step. CONTROLLER_VALUE is the count of steps made.
+ *   Areas as for controller_step.
+ *   Refusals, in this order: CONTROLLER_AREA_TOO_LONG, CONTROLLER_WORK_TOO_SHORT, CONTROLLER_LENGTH_TOO_LONG,
+ *   CONTROLLER_FUEL_TOO_HIGH, then those of controller_read.
+ *   A spent run is taken up again by another call on the term that it left, of CONTROLLER_SIZE bytes.
  */
+enum {
+    CONTROLLER_FINISHED = 110,       /* the area holds the result */
+    CONTROLLER_SPENT = 111,          /* the fuel is used; the area holds the term reached, which is not normal */
+    CONTROLLER_NO_ROOM = 112         /* the area holds the term reached; the next one is larger than the area */
+};
 uint64_t controller_finish(uint8_t *area, size_t area_size, size_t term_size, uint8_t *work, size_t work_size,
                            uint64_t fuel);
 
 /*
- * Checks a derivation file. Refusals: 10 to 13 with line 0, else the first bad line with its first number,
- * 14 to 18.
+ * Finishes two terms with the same fuel, each in its own area, and compares their results byte for byte. Both
+ * are run, also where the first did not finish; each area then holds the term that its run reached.
+ *   Areas as for controller_step; the one work area serves both.
+ *   Refusals: those of controller_finish for the first term, then those for the second. The reply does not say
+ *   whose it is.
  */
+enum {
+    CONTROLLER_SAME = 113,           /* both finished, with equal results */
+    CONTROLLER_DIFFERENT = 114,      /* both finished, with different results */
+    CONTROLLER_UNDECIDED = 115       /* one of them did not finish, or neither */
+};
+uint64_t controller_compare(uint8_t *first, size_t first_size, size_t first_term, uint8_t *second,
+                            size_t second_size, size_t second_term, uint8_t *work, size_t work_size,
+                            uint64_t fuel);
+
+/*
+ * Checks a derivation file.
+ *   Refusals: CONTROLLER_FILE_TOO_LONG, CONTROLLER_FILE_EMPTY, CONTROLLER_NO_LINE_END,
+ *   CONTROLLER_TOO_MANY_LINES, in this order; then the first bad line with the first of
+ *   CONTROLLER_NOT_SIX_FIELDS to CONTROLLER_NO_INSTANCE that fits it.
+ *   Leaves every byte as it was.
+ */
+enum {
+    CONTROLLER_ACCEPTED = 120        /* every line follows; CONTROLLER_VALUE is the number of lines */
+};
 uint64_t controller_check(const uint8_t *file, size_t file_size);
+
+/*
+ * Checks two derivation files and compares the contexts and the types of their last lines.
+ *   Refusals: those of controller_check for the first file, then those for the second. The reply does not say
+ *   whose it is.
+ *   Leaves every byte as it was.
+ */
+enum {
+    CONTROLLER_MATCH = 180,          /* both are equal */
+    CONTROLLER_NO_MATCH = 181        /* one of them differs, or both */
+};
+uint64_t controller_match(const uint8_t *first, size_t first_size, const uint8_t *second, size_t second_size);
 
 #ifdef __cplusplus
 }
 #endif
+
+/* ---- Null pointers ------------------------------------------------------------------------------------- */
+
+/*
+ * The engine itself takes no null pointer, so a call hands it a byte that it never touches in the place of a
+ * null pointer of length 0. A null pointer of any other length is a fault of the caller. The macros have the
+ * functions' names and use each argument once; &controller_step still names the function itself, which wants
+ * pointers that are not null.
+ */
+static inline const uint8_t *controller_some(const uint8_t *bytes, size_t size)
+{
+    static const uint8_t none = 0;
+    return bytes == NULL && size == 0 ? &none : bytes;
+}
+
+static inline uint8_t *controller_lent(uint8_t *bytes, size_t size)
+{
+    static uint8_t none = 0;
+    return bytes == NULL && size == 0 ? &none : bytes;
+}
+
+static inline uint64_t controller_call_read(const uint8_t *bytes, size_t size)
+{
+    return controller_read(controller_some(bytes, size), size);
+}
+
+static inline uint64_t controller_call_step(uint8_t *area, size_t area_size, size_t term_size, uint8_t *work,
+                                            size_t work_size)
+{
+    return controller_step(controller_lent(area, area_size), area_size, term_size,
+                           controller_lent(work, work_size), work_size);
+}
+
+static inline uint64_t controller_call_finish(uint8_t *area, size_t area_size, size_t term_size, uint8_t *work,
+                                              size_t work_size, uint64_t fuel)
+{
+    return controller_finish(controller_lent(area, area_size), area_size, term_size,
+                             controller_lent(work, work_size), work_size, fuel);
+}
+
+static inline uint64_t controller_call_compare(uint8_t *first, size_t first_size, size_t first_term,
+                                               uint8_t *second, size_t second_size, size_t second_term,
+                                               uint8_t *work, size_t work_size, uint64_t fuel)
+{
+    return controller_compare(controller_lent(first, first_size), first_size, first_term,
+                              controller_lent(second, second_size), second_size, second_term,
+                              controller_lent(work, work_size), work_size, fuel);
+}
+
+static inline uint64_t controller_call_check(const uint8_t *file, size_t file_size)
+{
+    return controller_check(controller_some(file, file_size), file_size);
+}
+
+static inline uint64_t controller_call_match(const uint8_t *first, size_t first_size, const uint8_t *second,
+                                             size_t second_size)
+{
+    return controller_match(controller_some(first, first_size), first_size,
+                            controller_some(second, second_size), second_size);
+}
+
+#define controller_read(bytes, size) controller_call_read(bytes, size)
+#define controller_step(area, area_size, term_size, work, work_size) \
+    controller_call_step(area, area_size, term_size, work, work_size)
+#define controller_finish(area, area_size, term_size, work, work_size, fuel) \
+    controller_call_finish(area, area_size, term_size, work, work_size, fuel)
+#define controller_compare(first, first_size, first_term, second, second_size, second_term, work, work_size, fuel) \
+    controller_call_compare(first, first_size, first_term, second, second_size, second_term, work, work_size, fuel)
+#define controller_check(file, file_size) controller_call_check(file, file_size)
+#define controller_match(first, first_size, second, second_size) \
+    controller_call_match(first, first_size, second, second_size)
 
 #endif

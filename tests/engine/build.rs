@@ -1,14 +1,8 @@
-//! Links each test program with the archive that it tests, where one is named.
-
-fn link(program: &str, variable: &str) {
-    println!("cargo:rerun-if-env-changed={variable}");
-    if let Ok(archive) = std::env::var(variable) {
-        println!("cargo:rerun-if-changed={archive}");
-        println!("cargo:rustc-link-arg-bin={program}={archive}");
-    }
-}
+//! Links whatever uses this package with the engine's one archive, which `rt staticlib controller` writes.
 
 fn main() {
-    link("controller_test", "CONTROLLER_ARCHIVE");
-    link("probe_test", "PROBE_ARCHIVE");
+    let folder = concat!(env!("CARGO_MANIFEST_DIR"), "/../../target/staticlib");
+    println!("cargo:rerun-if-changed={folder}/libcontroller.a");
+    println!("cargo:rustc-link-search=native={folder}");
+    println!("cargo:rustc-link-lib=static=controller");
 }

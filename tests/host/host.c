@@ -1,21 +1,68 @@
-/* A host like the firmware: it calls the three functions on a table of inputs and prints each reply
- * and every lent byte afterwards. What it must print is written by hand in expected.txt.
+/* A host like the firmware. It calls the six functions on a table of inputs and prints each reply and every
+ * lent byte afterwards; what it must print is written by hand in expected.txt. It knows the engine from its
+ * header alone: no code and no limit stands here as a number.
  *
- * Each area is a heap block of its true length, so that valgrind sees a byte touched beside it. */
+ * It is built as C99 and as C++. Each area is a heap block of its true length, so that valgrind sees a byte
+ * touched beside it. */
+#include "controller.h"
+
 #include <inttypes.h>
 #include <stdio.h>
 #include <stdlib.h>
 #include <string.h>
 
-#include "controller.h"
+typedef struct {
+    const char *name;
+    long number;
+} constant;
 
-/* A reply has its code in bits 0 to 7, its value in bits 8 to 31 and the term's length in bits 32 to 63. */
+#define CONSTANT(name) {#name, CONTROLLER_##name}
+
+static const constant codes[] = {
+    CONSTANT(AREA_TOO_LONG),  CONSTANT(WORK_TOO_SHORT), CONSTANT(LENGTH_TOO_LONG), CONSTANT(FUEL_TOO_HIGH),
+    CONSTANT(NO_LETTER),      CONSTANT(NOT_WHOLE),      CONSTANT(BEYOND),          CONSTANT(FILE_TOO_LONG),
+    CONSTANT(FILE_EMPTY),     CONSTANT(NO_LINE_END),    CONSTANT(TOO_MANY_LINES),  CONSTANT(NOT_SIX_FIELDS),
+    CONSTANT(MALFORMED),      CONSTANT(UNKNOWN_RULE),   CONSTANT(BAD_PREMISE),     CONSTANT(NO_INSTANCE),
+    CONSTANT(NORMAL),         CONSTANT(STEP_NO_ROOM),   CONSTANT(STEPPED),         CONSTANT(WHOLE),
+    CONSTANT(FINISHED),       CONSTANT(SPENT),          CONSTANT(NO_ROOM),         CONSTANT(SAME),
+    CONSTANT(DIFFERENT),      CONSTANT(UNDECIDED),      CONSTANT(ACCEPTED),        CONSTANT(MATCH),
+    CONSTANT(NO_MATCH),
+};
+
+static const constant limits[] = {
+    CONSTANT(LARGEST_AREA),
+    CONSTANT(MOST_FUEL),
+    CONSTANT(LARGEST_FILE),
+    CONSTANT(MOST_LINES),
+};
+
+#define COUNT(table) (sizeof(table) / sizeof(table)[0])
+
+/* Every constant of the header with its number. */
+static void constants(void)
+{
+    for (size_t place = 0; place < COUNT(codes); place++)
+        printf("constant %s %ld\n", codes[place].name, codes[place].number);
+    for (size_t place = 0; place < COUNT(limits); place++)
+        printf("constant %s %ld\n", limits[place].name, limits[place].number);
+}
+
+static const char *name_of(unsigned code)
+{
+    for (size_t place = 0; place < COUNT(codes); place++)
+        if (codes[place].number == (long)code)
+            return codes[place].name;
+    return "(unknown)";
+}
+
+/* The name of the code, and the parts that the header gives a reply with that code. */
 static void print_reply(uint64_t reply)
 {
-    uint64_t code = reply & 0xff;
-    uint64_t value = reply >> 8 & 0xffffff;
-    uint64_t length = reply >> 32;
-    printf(" %" PRIu64 " %" PRIu64 " %" PRIu64, code, value, length);
+    printf(": %s", name_of(CONTROLLER_CODE(reply)));
+    if (CONTROLLER_REFUSED(reply) || CONTROLLER_CODE(reply) == CONTROLLER_WHOLE)
+        printf(" at %" PRIu64, CONTROLLER_PLACE(reply));
+    else
+        printf(" value %" PRIu32 " size %" PRIu32, CONTROLLER_VALUE(reply), CONTROLLER_SIZE(reply));
 }
 
 /* Letters are printed as they are, a zero byte as _ and any other byte as its number. */
@@ -37,7 +84,7 @@ static void print_bytes(const char *name, const uint8_t *bytes, size_t size)
 /* A heap block of exactly this size that starts with the text and goes on with the filling. */
 static uint8_t *block(const char *text, size_t text_size, size_t size, uint8_t filling)
 {
-    uint8_t *bytes = malloc(size > 0 ? size : 1);
+    uint8_t *bytes = (uint8_t *)malloc(size > 0 ? size : 1);
     if (bytes == NULL)
         exit(2);
     for (size_t place = 0; place < size; place++)
@@ -45,11 +92,45 @@ static uint8_t *block(const char *text, size_t text_size, size_t size, uint8_t f
     return bytes;
 }
 
+static uint8_t *work_of(size_t size)
+{
+    return block("", 0, size, 'w');
+}
+
+/* Reading, of the text and of one byte again and again. */
+
+static void read_bytes(const char *name, const char *text, size_t size)
+{
+    uint8_t *bytes = block(text, size, size, 0);
+    printf("read %s", name);
+    print_reply(controller_read(bytes, size));
+    printf(" %s\n", size == 0 || memcmp(bytes, text, size) == 0 ? "unchanged" : "CHANGED");
+    free(bytes);
+}
+
+static void read_text(const char *text)
+{
+    read_bytes(text, text, strlen(text));
+}
+
+static void read_repeated(const char *name, char byte, size_t times, const char *end)
+{
+    size_t size = times + strlen(end);
+    uint8_t *bytes = block("", 0, size, (uint8_t)byte);
+    memcpy(bytes + times, end, strlen(end));
+    printf("read %s", name);
+    print_reply(controller_read(bytes, size));
+    putchar('\n');
+    free(bytes);
+}
+
+/* Stepping and finishing in areas of the given sizes. */
+
 static void step(const char *term, size_t area_size, size_t term_size, size_t work_size)
 {
     uint8_t *area = block(term, strlen(term), area_size, '#');
-    uint8_t *work = block("", 0, work_size, 'w');
-    printf("step %s:", term);
+    uint8_t *work = work_of(work_size);
+    printf("step %s", term);
     print_reply(controller_step(area, area_size, term_size, work, work_size));
     print_bytes("area", area, area_size);
     print_bytes("work", work, work_size);
@@ -61,8 +142,8 @@ static void step(const char *term, size_t area_size, size_t term_size, size_t wo
 static void finish(const char *term, size_t area_size, size_t term_size, size_t work_size, uint64_t fuel)
 {
     uint8_t *area = block(term, strlen(term), area_size, '#');
-    uint8_t *work = block("", 0, work_size, 'w');
-    printf("finish %s fuel %" PRIu64 ":", term, fuel);
+    uint8_t *work = work_of(work_size);
+    printf("finish %s fuel %" PRIu64, term, fuel);
     print_reply(controller_finish(area, area_size, term_size, work, work_size, fuel));
     print_bytes("area", area, area_size);
     print_bytes("work", work, work_size);
@@ -71,12 +152,12 @@ static void finish(const char *term, size_t area_size, size_t term_size, size_t 
     free(work);
 }
 
-/* A large area is not printed; its first byte and whether it was changed are. */
+/* A large area is not printed; its first byte and its last are. */
 static void finish_large(size_t area_size, size_t work_size)
 {
     uint8_t *area = block("J", 1, area_size, '#');
-    uint8_t *work = block("", 0, work_size, 'w');
-    printf("finish in %zu and %zu:", area_size, work_size);
+    uint8_t *work = work_of(work_size);
+    printf("finish in %zu and %zu", area_size, work_size);
     print_reply(controller_finish(area, area_size, 1, work, work_size, 5));
     print_bytes("first", area, 1);
     print_bytes("last", area + area_size - 1, 1);
@@ -87,16 +168,16 @@ static void finish_large(size_t area_size, size_t work_size)
     free(work);
 }
 
-/* One letter over and over, then an end, in an area of exactly that size. */
-static void finish_nested(const char *letter, size_t times, const char *end, uint64_t fuel)
+/* Some letters over and over, then an end, in an area of exactly that size. */
+static void finish_nested(const char *letters, size_t times, const char *end, uint64_t fuel)
 {
-    size_t size = strlen(letter) * times + strlen(end);
+    size_t size = strlen(letters) * times + strlen(end);
     uint8_t *area = block("", 0, size, 0);
-    uint8_t *work = block("", 0, size, 'w');
-    for (size_t place = 0; place < strlen(letter) * times; place++)
-        area[place] = (uint8_t)letter[place % strlen(letter)];
-    memcpy(area + strlen(letter) * times, end, strlen(end));
-    printf("finish %s^%zu %s:", letter, times, end);
+    uint8_t *work = work_of(size);
+    for (size_t place = 0; place < strlen(letters) * times; place++)
+        area[place] = (uint8_t)letters[place % strlen(letters)];
+    memcpy(area + strlen(letters) * times, end, strlen(end));
+    printf("finish %s^%zu %s", letters, times, end);
     print_reply(controller_finish(area, size, size, work, size, fuel));
     print_bytes("first", area, 3);
     putchar('\n');
@@ -104,10 +185,31 @@ static void finish_nested(const char *letter, size_t times, const char *end, uin
     free(work);
 }
 
+/* Comparing of two terms, in areas of these sizes. */
+static void compare(const char *one, size_t one_size, const char *two, size_t two_size, size_t work_size,
+                    uint64_t fuel)
+{
+    uint8_t *first = block(one, strlen(one), one_size, '#');
+    uint8_t *second = block(two, strlen(two), two_size, '#');
+    uint8_t *work = work_of(work_size);
+    printf("compare %s and %s fuel %" PRIu64, one, two, fuel);
+    print_reply(controller_compare(first, one_size, strlen(one), second, two_size, strlen(two), work, work_size,
+                                   fuel));
+    print_bytes("first", first, one_size);
+    print_bytes("second", second, two_size);
+    print_bytes("work", work, work_size);
+    putchar('\n');
+    free(first);
+    free(second);
+    free(work);
+}
+
+/* Checking of a file and of one byte again and again; matching of two files. */
+
 static void check_bytes(const char *name, const char *file, size_t size)
 {
     uint8_t *bytes = block(file, size, size, 0);
-    printf("check %s:", name);
+    printf("check %s", name);
     print_reply(controller_check(bytes, size));
     printf(" %s\n", size == 0 || memcmp(bytes, file, size) == 0 ? "unchanged" : "CHANGED");
     free(bytes);
@@ -118,14 +220,48 @@ static void check(const char *name, const char *file)
     check_bytes(name, file, strlen(file));
 }
 
-/* One byte over and over. */
 static void check_repeated(const char *name, char byte, size_t size)
 {
     uint8_t *bytes = block("", 0, size, (uint8_t)byte);
-    printf("check %s:", name);
+    printf("check %s", name);
     print_reply(controller_check(bytes, size));
     putchar('\n');
     free(bytes);
+}
+
+static void match(const char *name, const char *one, const char *two)
+{
+    uint8_t *first = block(one, strlen(one), strlen(one), 0);
+    uint8_t *second = block(two, strlen(two), strlen(two), 0);
+    printf("match %s", name);
+    print_reply(controller_match(first, strlen(one), second, strlen(two)));
+    printf(" %s\n", memcmp(first, one, strlen(one)) == 0 && memcmp(second, two, strlen(two)) == 0 ? "unchanged"
+                                                                                                  : "CHANGED");
+    free(first);
+    free(second);
+}
+
+/* The tables. */
+
+static void readings(void)
+{
+    read_text(".BII.JRJ");
+    read_text("J");
+    read_text("Jx");
+    read_text("xJ");
+    read_text("HxJJ");
+    read_text("R.");
+    read_text("JJ");
+    read_bytes("nothing", "", 0);
+    read_bytes("HJJ and a NUL", "HJJ\0", 4);
+}
+
+static void long_readings(void)
+{
+    read_repeated("R^17000000", 'R', 17000000, "");
+    read_repeated("R^17000000 J", 'R', 17000000, "J");
+    read_repeated("R^17000000 x", 'R', 17000000, "x");
+    read_repeated("R^17000000 JJ", 'R', 17000000, "JJ");
 }
 
 static void steps(void)
@@ -167,7 +303,7 @@ static void runs(void)
     finish("J", 2, 1, 2, 0);
     finish(".BII.JRJ", 12, 8, 12, 6);
     finish(".BII.JRJ", 12, 8, 12, 5);
-    finish(".BII.JRJ", 12, 8, 12, 1000000);
+    finish(".BII.JRJ", 12, 8, 12, CONTROLLER_MOST_FUEL);
     finish(".BII.JRJ", 11, 8, 11, 0);
     finish(".BII.JRJ", 11, 8, 11, 1);
     finish(".BII.JRJ", 11, 8, 11, 2);
@@ -179,22 +315,37 @@ static void runs(void)
 
 static void long_runs(void)
 {
-    finish_nested("R", 16383, "J", 1);
-    finish_nested(".I", 8191, "J", 1000000);
-    finish_nested(".J", 8191, "J", 1000000);
+    finish_nested("R", CONTROLLER_LARGEST_AREA - 1, "J", 1);
+    finish_nested(".I", CONTROLLER_LARGEST_AREA / 2 - 1, "J", CONTROLLER_MOST_FUEL);
+    finish_nested(".J", CONTROLLER_LARGEST_AREA / 2 - 1, "J", CONTROLLER_MOST_FUEL);
 }
 
 static void run_refusals(void)
 {
-    finish("J", 3, 1, 3, 1000001);
+    finish("J", 3, 1, 3, CONTROLLER_MOST_FUEL + 1);
     finish("J", 3, 1, 3, UINT64_MAX);
-    finish("J", 3, 4, 3, 1000001);
-    finish("xJ", 3, 2, 3, 1000001);
+    finish("J", 3, 4, 3, CONTROLLER_MOST_FUEL + 1);
+    finish("xJ", 3, 2, 3, CONTROLLER_MOST_FUEL + 1);
     finish("JJ", 3, 2, 3, 1);
     finish("HJ", 3, 2, 3, 1);
-    finish_large(16384, 16384);
-    finish_large(16385, 16385);
-    finish_large(16384, 16383);
+    finish_large(CONTROLLER_LARGEST_AREA, CONTROLLER_LARGEST_AREA);
+    finish_large(CONTROLLER_LARGEST_AREA + 1, CONTROLLER_LARGEST_AREA + 1);
+    finish_large(CONTROLLER_LARGEST_AREA, CONTROLLER_LARGEST_AREA - 1);
+}
+
+static void comparisons(void)
+{
+    compare(".BII.JRJ", 12, ".IJ", 3, 13, 6);
+    compare(".BII.JRJ", 12, ".II", 4, 12, 6);
+    compare(".BII.JRJ", 12, ".II", 4, 12, 1);
+    compare("J", 1, ".BII.JRJ", 11, 11, 6);
+    compare("J", 2, "J", 3, 3, CONTROLLER_MOST_FUEL + 1);
+    compare("J", 5, "J", 3, 4, 5);
+    compare("J", 3, "J", 5, 4, 5);
+    compare("JJJJ", 3, "J", 3, 3, 5);
+    compare("Rx", 3, "JJ", 3, 3, 5);
+    compare("J", 3, "HJ", 3, 3, 5);
+    compare("J", 3, "JJ", 3, 3, 5);
 }
 
 #define LINE_J "*a1\tJ\ta\tJ\t-\t-\n"
@@ -205,12 +356,12 @@ static void checks(void)
     check("example 11", LINE_J LINE_I "1\tAIJ\t>aa\tA\t2\t1\n");
     check("example 12", LINE_J LINE_I "1\tAIJ\t>aa\tA\t1\t2\n");
     check("one line twice", LINE_I "1\t.II\t1\ts\t1\t1\n");
-    check_bytes("empty", "", 0);
+    check_bytes("nothing", "", 0);
     check("x", "x");
-    check_repeated("65537 line feeds", '\n', 65537);
-    check_repeated("65536 line feeds", '\n', 65536);
-    check_repeated("1025 line feeds", '\n', 1025);
-    check_repeated("1024 line feeds", '\n', 1024);
+    check_repeated("one line feed more than bytes are allowed", '\n', CONTROLLER_LARGEST_FILE + 1);
+    check_repeated("as many line feeds as bytes are allowed", '\n', CONTROLLER_LARGEST_FILE);
+    check_repeated("one line feed more than lines are allowed", '\n', CONTROLLER_MOST_LINES + 1);
+    check_repeated("as many line feeds as lines are allowed", '\n', CONTROLLER_MOST_LINES);
     check("seven fields", LINE_I "1\tI\t1\tI\t-\t-\t-\n");
     check("atom as context", "a\tI\t1\tI\t-\t-\n");
     check("long rule", "1\tI\t1\tII\t-\t-\n");
@@ -222,16 +373,80 @@ static void checks(void)
     check_bytes("NUL as the term", "1\t\0\t1\tI\t-\t-\n", 12);
 }
 
-/* With an argument the long runs are left out: they take minutes under valgrind. */
+static void matches(void)
+{
+    match("a file and itself", LINE_J LINE_I, LINE_J LINE_I);
+    match("claims on different terms", LINE_I "1\t.II\t1\ts\t1\t1\n", LINE_I);
+    match("different contexts", LINE_I, "*a1\tI\t1\tI\t-\t-\n");
+    match("different types", LINE_J, "*a1\tI\t1\tI\t-\t-\n");
+    match("first bad on line 2, second on line 1", LINE_I "1\tJ\ta\tJ\t-\t-\n", "x\n");
+    match("second without its last line feed", LINE_I, "x");
+}
+
+/* Null pointers with length 0. */
+static void nulls(void)
+{
+    uint8_t area[] = {'J', '#', '#'};
+    uint8_t work[] = {'w', 'w', 'w'};
+    const uint8_t *file = (const uint8_t *)LINE_I;
+    size_t file_size = strlen(LINE_I);
+    printf("read null");
+    print_reply(controller_read(NULL, 0));
+    printf("\nstep null and null");
+    print_reply(controller_step(NULL, 0, 0, NULL, 0));
+    printf("\nstep null, length 1");
+    print_reply(controller_step(NULL, 0, 1, work, sizeof work));
+    printf("\nstep J and null");
+    print_reply(controller_step(area, sizeof area, 1, NULL, 0));
+    printf("\nfinish null");
+    print_reply(controller_finish(NULL, 0, 0, work, sizeof work, 5));
+    printf("\ncompare J and null");
+    print_reply(controller_compare(area, sizeof area, 1, NULL, 0, 0, work, sizeof work, 5));
+    printf("\ncheck null");
+    print_reply(controller_check(NULL, 0));
+    printf("\nmatch null and a file");
+    print_reply(controller_match(NULL, 0, file, file_size));
+    printf("\nmatch a file and null");
+    print_reply(controller_match(file, file_size, NULL, 0));
+    print_bytes("area", area, sizeof area);
+    print_bytes("work", work, sizeof work);
+    putchar('\n');
+}
+
+/* The functions themselves, by their addresses. */
+static void pointers(void)
+{
+    uint64_t (*stepping)(uint8_t *, size_t, size_t, uint8_t *, size_t) = &controller_step;
+    uint64_t (*reading)(const uint8_t *, size_t) = controller_read;
+    uint8_t area[] = {'.', 'I', 'J'};
+    uint8_t work[] = {'w', 'w', 'w'};
+    printf("read through a pointer");
+    print_reply(reading(area, sizeof area));
+    printf("\nstep through a pointer");
+    print_reply(stepping(area, sizeof area, sizeof area, work, sizeof work));
+    print_bytes("area", area, sizeof area);
+    print_bytes("work", work, sizeof work);
+    putchar('\n');
+}
+
+/* With an argument the long calls are left out: they take minutes under valgrind. */
 int main(int count, char **words)
 {
     (void)words;
+    constants();
+    readings();
     steps();
     step_refusals();
     runs();
     run_refusals();
+    comparisons();
     checks();
-    if (count == 1)
+    matches();
+    nulls();
+    pointers();
+    if (count == 1) {
+        long_readings();
         long_runs();
+    }
     return 0;
 }

@@ -1,61 +1,38 @@
 -- Every line of the finishing program is at most 16,402 bytes, so `out` has room for it and the bytes written are the line. Carried by
 -- the bounds on finishing's answers. Assumes nothing.
-use Prim.Native.Nat.{ℕ, _+_, _*_, _/_, _%_, _≤_, _<_}
-use native.Mathlib.Decide.{decLt}
+use Prim.Native.Nat.{ℕ, _+_, _≤_, _<_}
 use native.Mathlib.Omega.{arith}
 use mathlib.Core.Path.{_≡_, refl, _∙_, ap}
-use mathlib.Core.List.{List, [], _∷_, _++_, List·Memᴰ, List·Memᴰ·head, List·Memᴰ·tail}
+use mathlib.Core.List.{List, [], _∷_, List·Memᴰ, List·Memᴰ·head, List·Memᴰ·tail}
 use mathlib.Core.Option.{Option, none, some}
-use lib.ListN.{length, take, drop, length-append, length-take}
+use lib.ListN.{length, take, drop, length-take}
 use lib.Seq.{take-at}
 use Rattle.calculus.specs.Term.{Term, size}
 use Rattle.calculus.specs.Run.{Outcome, run, outcome, count, reached}
 use Rattle.calculus.proofs.Runs.{count-fuel, reached-fits}
 use Rattle.calculus.proofs.PrefixCode.{length-text}
-use Rattle.calculus.specs.Examples.{ascii}
+use Rattle.calculus.specs.Ascii.{ascii}
 use Rattle.slices.specs.Put.{put, behind}
 use Rattle.slices.specs.Numeral.{decimal}
 use Rattle.slices.proofs.Put.{put-fits, behind-fits}
-use Rattle.slices.proofs.Decimal.{decimal-tenth, decimal-digit}
-use Rattle.reading.specs.Reply.{Reply}
+use Rattle.slices.proofs.Decimal.{decimal-length}
+use Rattle.reading.specs.Reply.{Reply, Refuses}
 use Rattle.stepping.specs.Areas.{holding}
 use Rattle.finishing.specs.Finishing.{After, finishingOf}
 use Rattle.finishing.proofs.Calls.{Call, call}
-use Rattle.finish_line.specs.Printed.{lineOf}
-use Rattle.finish_line.specs.Fields.{countOf}
+use Rattle.printing.specs.Printed.{lineOf, countOf}
+use Rattle.printing.proofs.Writing.{length-row}
 use Rattle.finish_line.specs.Request.{Request, requestOf}
 use Rattle.answering.specs.Shown.{word, refusedLine, shownRun, shownCheck}
 use Rattle.answering.specs.Program.{areaWith, requestLine, finishProgram}
 use Rattle.answering.proofs.Zeros.{zeros}
 
--- numbers below b take at most k digits
-abbrev Digits : (b k : ℕ) → Type 0
-Digits b k = (n : ℕ) → n < b → length (decimal n) ≤ k
-
-one-digit : Digits 10 1
-one-digit n h = omega (arith, ap length (decimal-digit n h))
-
-more-digits : (b k : ℕ) → 1 ≤ k → Digits b k → Digits (10 * b) (k + 1)
-more-digits b k low digits n h = go (decLt n 10)
-  where
-    go : Dec (n < 10) → length (decimal n) ≤ k + 1
-    go (yes small) = omega (arith, one-digit n small)
-    go (no large) =
-        omega (arith, ap length (decimal-tenth n (omega arith)), length-append (decimal (n / 10)) ((48 + n % 10) ∷ []), digits (n / 10) (omega arith))
-
-pub seven-digits : Digits 10000000 7
-seven-digits =
-    let two : Digits 100 2 = more-digits 10 1 (omega arith) one-digit in
-    let three : Digits 1000 3 = more-digits 100 2 (omega arith) two in
-    let four : Digits 10000 4 = more-digits 1000 3 (omega arith) three in
-    let five : Digits 100000 5 = more-digits 10000 4 (omega arith) four in
-    let six : Digits 1000000 6 = more-digits 100000 5 (omega arith) five in
-    more-digits 1000000 6 (omega arith) six
+-- numbers below ten million have at most seven digits
+seven-digits : (n : ℕ) → n < 10000000 → length (decimal n) ≤ 7
+seven-digits n h = decimal-length 6 n h
 
 length-line : (w : List ℕ) (n : ℕ) (r : List ℕ) → length (lineOf w n r) ≡ length w + length (decimal n) + length r + 3
-length-line w n r =
-    omega
-    (arith, length-append w (9 ∷ decimal n), length-append (w ++ (9 ∷ decimal n)) (9 ∷ r), length-append (w ++ (9 ∷ decimal n) ++ (9 ∷ r)) (10 ∷ []))
+length-line w n r = omega (arith, length-row (w ∷ decimal n ∷ r ∷ []))
 
 pub refused-length : (number place : ℕ) → number < 10000000 → place < 10000000 → length (refusedLine number place) ≤ 24
 refused-length number place h k =
@@ -63,8 +40,7 @@ refused-length number place h k =
 
 pub accepted-length : (lines : ℕ) → lines < 10000000 → length (countOf (ascii "accepted") lines) ≤ 17
 accepted-length lines h =
-    let w = ascii "accepted" in
-    omega (arith, length-append w (9 ∷ decimal lines), length-append (w ++ (9 ∷ decimal lines)) (10 ∷ []), seven-digits lines h)
+    omega (arith, length-row (ascii "accepted" ∷ decimal lines ∷ []), seven-digits lines h)
 
 -- a checking reply whose numbers have at most seven digits
 abbrev pub Small : Reply ℕ → Type 0
@@ -80,22 +56,28 @@ word-length Outcome.finished = omega arith
 word-length Outcome.spent = omega arith
 word-length Outcome.no-room = omega arith
 
-below : (n : ℕ) → List·Memᴰ n (1 ∷ 2 ∷ 3 ∷ 4 ∷ 5 ∷ 6 ∷ 7 ∷ []) → n < 10
-below n m = go (1 ∷ 2 ∷ 3 ∷ 4 ∷ 5 ∷ 6 ∷ 7 ∷ []) (omega arith) m
-  where
-    Low : List ℕ → Type 0
-    Low [] = Unit
-    Low (k ∷ ks) = (k < 10) × Low ks
+-- a number of a list whose numbers are all small is small
+abbrev Low : List ℕ → Type 0
+Low [] = Unit
+Low (n ∷ numbers) = (n < 10000000) × Low numbers
 
-    go : (numbers : List ℕ) → Low numbers → List·Memᴰ n numbers → n < 10
-    go [] s m = absurd (elim m [ ])
-    go (k ∷ ks) s (List·Memᴰ·head e) = omega (arith, e, s .0)
-    go (k ∷ ks) s (List·Memᴰ·tail m) = go ks (s .1) m
+below : {n : ℕ} (numbers : List ℕ) → Low numbers → List·Memᴰ n numbers → n < 10000000
+below [] low m = absurd (elim m [ ])
+below (k ∷ numbers) low (List·Memᴰ·head e) = omega (arith, e, low .0)
+below (k ∷ numbers) low (List·Memᴰ·tail m) = below numbers (low .1) m
+
+-- the number and the place of a refusal are small
+pub refusal-small :
+    {plain placed : List ℕ} {least most number place : ℕ} → Low plain → Low placed → most < 10000000 → Refuses plain placed least most number place →
+    (number < 10000000) × (place < 10000000)
+refusal-small {plain = plain} low low′ few (Refuses.at-zero m e) = (below plain low m, omega arith)
+refusal-small {placed = placed} low low′ few (Refuses.at-place m from to) = (below placed low′ m, omega arith)
 
 -- the line of a call of finishing
 call-length : {area work : List ℕ} {len fuel : ℕ} {x : After} → Call area len work fuel x → length (shownRun x) ≤ 16402
 call-length (Call.refused {number} {place} found) =
-    omega (arith, refused-length number place (omega (arith, below number (found .listed))) (omega (arith, found .within)))
+    let (h, k) = refusal-small (omega arith) (omega arith) (omega arith) found in
+    omega (arith, refused-length number place h k)
 call-length {area = area} {len = len} {fuel = fuel} (Call.made t admits) =
     let r = run fuel (length area) t in
     let held = admits .held in

@@ -1,4 +1,5 @@
 pub mod Printing
+pub mod Failing
 pub mod Requests
 pub mod Ranges
 pub mod Caps

@@ -4,14 +4,15 @@ use Prim.Native.Nat.{ℕ, _≤_, _<_, min}
 use native.Mathlib.Decide.{decLe}
 use native.Mathlib.Omega.{arith}
 use mathlib.Core.Path.{_≡_, sym, _∙_, ap, ap₂}
-use mathlib.Core.List.{List}
+use mathlib.Core.Bool.{Bool, true, false}
+use mathlib.Core.List.{List, []}
 use mathlib.Core.Option.{Option, none, some}
 use borrow.Author.Tests.{lt-ltb}
 use lib.ListN.{length, take, length-take}
 use lib.Seq.{take-all}
 use Rattle.slices.specs.Put.{put, behind}
 use Rattle.reading.specs.Reply.{Reply}
-use Rattle.checking.specs.Checking.{checkingOf}
+use Rattle.derivation_files.specs.Checking.{checkingOf}
 use Rattle.finishing.specs.Finishing.{finishingOf}
 use Rattle.finish_line.specs.Request.{requestOf}
 use Rattle.finish_line.specs.Request.{Request as Wanted}
@@ -20,7 +21,7 @@ use Rattle.finish_line.specs.Fed.{fuelCap, lengthCap}
 use Rattle.finish_line.specs.declared.Asked.{Asked}
 use Rattle.finish_line.proofs.Asks.{Answers, inputOf, after, line-answers}
 use Rattle.answering.specs.Shown.{shownRun, shownCheck}
-use Rattle.answering.specs.Program.{areaWith, requestLine, finishProgram, checkProgram}
+use Rattle.answering.specs.Program.{areaWith, requestLine, finishProgram, checkProgram, unlessFailed}
 use Rattle.answering.specs.Answer.{printedRun}
 use Rattle.answering.proofs.Ranges.{Ranged, ranged}
 use Rattle.answering.proofs.Caps.{capped}
@@ -52,11 +53,13 @@ module _ (n m : ℕ) (room : 16384 ≤ n) (work-room : 16384 ≤ m) where
   abbrev pub printed : List (List ℕ) → List ℕ
   printed chunks = printedRun (askedOf (after (zeros n) chunks .line)) (after (zeros n) chunks .buffer) (zeros m)
 
-  -- so the bytes in front of its answer are the program's line, where `out` has 16,402 bytes or more
+  -- so the bytes in front of the answer are the program's line, where `out` has 16,402 bytes or more, and none after a failed read
   pub finish-writes :
-      (chunks : List (List ℕ)) (out : List ℕ) → 16402 ≤ length out →
-      take (behind 0 (printed chunks) out) (put 0 (printed chunks) out) ≡ finishProgram (inputOf chunks)
-  finish-writes chunks out h =
+      (failed : Bool) (chunks : List (List ℕ)) (out : List ℕ) → 16402 ≤ length out →
+      take (behind 0 (unlessFailed failed (printed chunks)) out) (put 0 (unlessFailed failed (printed chunks)) out)
+      ≡ unlessFailed failed (finishProgram (inputOf chunks))
+  finish-writes true chunks out h = line-whole [] out (omega arith) .0
+  finish-writes false chunks out h =
       let prints : printed chunks ≡ finishProgram (inputOf chunks) = finish-prints chunks in
       line-whole (printed chunks) out (omega (arith, ap length prints, program-length (inputOf chunks))) .0 ∙ prints
 
@@ -73,9 +76,13 @@ check-front file = go (decLe (length file) 65537)
     go (yes h) = ap (λ (f : List ℕ). shownCheck (checkingOf f)) (take-all 65537 file h)
     go (no h) = ap shownCheck (over-long (take 65537 file) (omega (arith, length-take 65537 file)) ∙ sym (over-long file (omega arith)))
 
--- so the bytes in front of `answer_check`'s answer are the program's line, where `out` has 24 bytes or more
+-- so the bytes in front of the answer are the program's line, where `out` has 24 bytes or more, and none after a failed read
+abbrev pub checked-front : (failed : Bool) (file : List ℕ) → List ℕ
+checked-front failed file = unlessFailed failed (checkProgram (take 65537 file))
+
 pub check-writes :
-    (file out : List ℕ) → 24 ≤ length out →
-    take (behind 0 (checkProgram (take 65537 file)) out) (put 0 (checkProgram (take 65537 file)) out) ≡ checkProgram file
-check-writes file out h =
+    (failed : Bool) (file out : List ℕ) → 24 ≤ length out →
+    take (behind 0 (checked-front failed file) out) (put 0 (checked-front failed file) out) ≡ unlessFailed failed (checkProgram file)
+check-writes true file out h = line-whole [] out (omega arith) .0
+check-writes false file out h =
     line-whole (checkProgram (take 65537 file)) out (omega (arith, check-program-length (take 65537 file))) .0 ∙ check-front file

@@ -1,18 +1,20 @@
--- The two programs, as functions on the whole of standard input. Document 01: "The finishing program reads one line .. Input of any other
--- shape, or an area size out of range, is 19 at place 0, ahead of finishing's own numbers. .. The checking program reads a file from
--- standard input".
+-- The two programs, as functions on the whole of standard input (REQUIREMENTS, Programs): input of another shape than the finishing
+-- program's line is refused ahead of finishing's own refusals.
 use Prim.Native.Nat.{ℕ, _-_}
-use mathlib.Core.List.{List, _++_}
+use mathlib.Core.Bool.{Bool, true, false}
+use mathlib.Core.List.{List, [], _++_}
 use mathlib.Core.Option.{Option, none, some}
 use lib.ListN.{length, take, replicate}
 use Rattle.finish_line.specs.Request.{Request, requestOf}
+use Rattle.finish_line.specs.Answer.{numberOf}
+use Rattle.finish_line.specs.declared.Asked.the-variants.{OtherShape}
 use Rattle.finishing.specs.Finishing.{finishingOf}
-use Rattle.checking.specs.Checking.{checkingOf}
+use Rattle.derivation_files.specs.Checking.{checkingOf}
 use Rattle.answering.specs.Shown.{refusedLine, shownRun, shownCheck}
 
 -- input of another shape
 abbrev pub shapeLine : List ℕ
-shapeLine = refusedLine 19 0
+shapeLine = refusedLine (numberOf OtherShape) 0
 
 -- an area of that many bytes: at its front the bytes, as many as fit, and zeros behind them
 abbrev pub areaWith : (area : ℕ) → List ℕ → List ℕ
@@ -29,3 +31,8 @@ finishProgram input = requestLine (requestOf input)
 -- what the checking program prints
 unfoldable pub checkProgram : List ℕ → List ℕ
 checkProgram file = shownCheck (checkingOf file)
+
+-- what goes to standard output: nothing where standard input could not be read
+abbrev pub unlessFailed : Bool → List ℕ → List ℕ
+unlessFailed true line = []
+unlessFailed false line = line

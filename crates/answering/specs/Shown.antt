@@ -1,14 +1,12 @@
--- The line that is printed of an answer. Document 01: "It prints outcome, count and term; or `refused`, number and place. .. The checking
--- program .. prints `accepted` and the line count, or `refused`, number and line."
+-- The line that is printed of an answer (REQUIREMENTS, Programs).
 use Prim.Native.Nat.{ℕ}
 use mathlib.Core.List.{List}
 use lib.ListN.{take}
 use Rattle.calculus.specs.Run.{Outcome}
-use Rattle.calculus.specs.Examples.{ascii}
+use Rattle.calculus.specs.Ascii.{ascii}
 use Rattle.reading.specs.Reply.{Reply}
 use Rattle.finishing.specs.Finishing.{Ran, After}
-use Rattle.finish_line.specs.Printed.{lineOf, numbersOf}
-use Rattle.finish_line.specs.Fields.{countOf}
+use Rattle.printing.specs.Printed.{lineOf, numbersOf, countOf}
 
 abbrev pub word : Outcome → List ℕ
 word Outcome.finished = ascii "finished"

@@ -1,4 +1,4 @@
--- The theorems about document 01's definitions, in the order of the argument.
+-- The theorems about the definitions, in the order of the argument.
 pub mod PrefixCode
 pub mod Order
 pub mod Confluence
@@ -7,4 +7,4 @@ pub mod Derivations
 pub mod Sizes
 pub mod Runs
 pub mod Results
-pub mod Examples
+pub mod Ranges

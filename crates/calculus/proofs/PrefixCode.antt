@@ -132,7 +132,7 @@ text-injective t u e = uniquely-readable t u [] [] (ap (λ (s : List ℕ). s ++ 
 length-both : (t u : Term) → length (text t) ≡ size t → length (text u) ≡ size u → length (text t ++ text u) ≡ size t + size u
 length-both t u first second = length-append (text t) (text u) ∙ ap₂ _+_ first second
 
--- the size of a term is its number of letters
+-- the text of a term has as many bytes as its size says
 pub length-text : (t : Term) → length (text t) ≡ size t
 length-text Term.J = refl
 length-text (Term.R t) = ap suc (length-text t)
@@ -184,6 +184,6 @@ no-stop-normal Term.I n = Normal.normal-I
 no-stop-normal (Term.B u s) n = both-normal u s Normal.normal-B (no-stop-normal u) (no-stop-normal s) n
 no-stop-normal (Term.app t u) n = absurd (n (List·Memᴰ·head refl))
 
--- a term is normal when it has no full stop
+-- normal terms are those whose text lacks the full stop
 pub normal-text : (t : Term) → Normal t ↔ (List·Memᴰ (byte Letter.stop) (text t) → ⊥)
 normal-text t = (normal-no-stop, no-stop-normal t)

@@ -1,4 +1,4 @@
--- The run as a function is document 01's loop, and each outcome has its exact condition.
+-- The run as a function is the loop of REQUIREMENTS, Finishing, and each outcome has its exact condition.
 -- Carried by one induction on the fuel, that `run` goes as the loop, and inductions on the run that the loop makes. Assumes nothing.
 use Prim.Native.Nat.{ℕ, zero, suc, _+_, _≤_, _<_}
 use mathlib.Core.Path.{_≡_, refl, sym, _∙_, ap, subst}
@@ -30,7 +30,7 @@ run-more :
     run (suc fuel) area t ≡ stepped room n u (λ v. run fuel area v)
 run-more fuel area t {n} {u} room e f = ap (λ (x : Next). continued area x (λ v. run fuel area v)) e ∙ ap (λ (b : Bool). stepped b n u (λ v. run fuel area v)) f
 
--- else no room if the next term is larger than the area
+-- where the next term is over the area, no room
 pub run-no-room :
     (fuel area : ℕ) (t : Term) {n : ℕ} {u : Term} → next t ≡ Next.step n u → area < size u →
     run (suc fuel) area t ≡ Run.end Outcome.no-room

@@ -1,6 +1,5 @@
--- One change of one part, where it stands.
--- Document 01: "The parts of a term are the term itself and the parts of the terms that its first letter takes. One change takes
--- one part, where it stands, that is either side of a rule, .. and writes the rule's other side in its place".
+-- One change of one part, where it stands (REQUIREMENTS, Turning): a rule's left side anywhere in a term, also in a closure's body, replaced by
+-- its right side.
 use Prim.Native.Nat.{ℕ}
 use mathlib.Core.List.{List, [], _∷_}
 use Rattle.calculus.specs.Term.{Term}

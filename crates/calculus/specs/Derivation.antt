@@ -1,6 +1,5 @@
--- Derivable. Document 01: "A term has a type in a context, and this judgement is derivable, when some finite list of judgements
--- ends with it and each of them follows by one of these rules from earlier ones in the list. The list and all that it holds may be
--- of any length".
+-- Derivable (REQUIREMENTS, Typing): the last of a finite list, of any length, in which each judgement follows from ones before it. No limit on
+-- files plays a part.
 use mathlib.Core.List.{List, [], _∷_, List·Memᴰ}
 use Rattle.calculus.specs.Typing.{Judgement, Name, Follows}
 

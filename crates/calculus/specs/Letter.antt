@@ -1,6 +1,5 @@
--- The letters of terms and the byte of each. Nothing else in the repository says how a letter is written.
--- Document 01: "A term is written in prefix form, one byte a node, with the operator letters of 001 section 4.1 and a full stop
--- for plain application".
+-- The letters of terms, the byte of each, and how many terms it takes (REQUIREMENTS, Terms). Every other definition names a letter by `byte`; code
+-- names it by its constant in src/letters.rt and its arity by reading's table, each proved against this file.
 use Prim.Native.Nat.{ℕ, suc}
 use mathlib.Core.Bool.{Bool, true, false}
 use mathlib.Core.List.{List, [], _∷_}

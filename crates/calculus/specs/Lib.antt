@@ -1,4 +1,4 @@
--- Document 01 as definitions. A reader who believes these files believes what every promise and theorem is about.
+-- The calculus as definitions. A reader who believes these files believes what every promise and theorem is about.
 pub mod Letter
 pub mod Term
 pub mod Parse
@@ -10,4 +10,5 @@ pub mod Run
 pub mod Types
 pub mod Typing
 pub mod Derivation
-pub mod Examples
+pub mod Limits
+pub mod Ascii

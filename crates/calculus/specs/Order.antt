@@ -1,7 +1,6 @@
--- The order: which step is next, as a relation and as a function. `proofs/Order.antt` shows that they agree.
--- Document 01: "If the term is not an application, then of the terms that its first letter takes, the next step is in the leftmost
--- that is not normal. If it is `.` f a and f is an application, the step is in f. If f is a pair and a is an application, the step
--- is in a. Otherwise a rule applies to the term itself. A closure's body is reduced like any other part."
+-- Which step is next (REQUIREMENTS, Order), as a relation and as a function. `proofs/Order.antt` shows that they agree.
+-- Outside an application the leftmost part that is not normal is stepped, bodies of closures too; in one, first a function that is itself an
+-- application, then an application that a pair is applied to, else the rule fires where the application stands.
 use Prim.Native.Nat.{ℕ}
 use mathlib.Core.List.{[], _∷_}
 use Rattle.calculus.specs.Term.{Term, Normal}

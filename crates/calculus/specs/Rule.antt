@@ -1,4 +1,4 @@
--- The eleven rules. Document 01: "Rules have the numbers 1 to 11 in figure 1's order."
+-- The eleven rules, numbered as figure 1 has them (REQUIREMENTS, Rules).
 use Prim.Native.Nat.{ℕ}
 use Rattle.calculus.specs.Term.{Term}
 

@@ -1,6 +1,5 @@
--- Runs. Document 01, finishing: "Then over and over: finished if the term is normal; else spent if the steps made equal the fuel;
--- else no room if the next term is larger than the area; else one step. .. Its terms are the one it starts from and the one after
--- each step; the last term of a finished run is its result."
+-- Runs (REQUIREMENTS, Finishing), as a function and as a relation. `proofs/Runs.antt` shows that they agree.
+-- Before each step three tests, in this order: normal ends the run as finished, no fuel left as spent, a next term over the area as no room.
 use Prim.Native.Nat.{ℕ, zero, suc, _≤_, _<_}
 use mathlib.Core.Path.{_≡_}
 use mathlib.Core.Bool.{Bool, true, false}
@@ -61,7 +60,7 @@ abbrev pub reached : Term → Run → Term
 reached t (Run.end o) = t
 reached t (Run.then n u r) = reached u r
 
--- document 01's loop as a relation: `Runs fuel area made t r` says that from t, with that many steps made, r is the rest of the run
+-- the loop as a relation: `Runs fuel area made t r` says that from t, with that many steps made, r is the rest of the run
 pub data Runs (fuel area : ℕ) : (made : ℕ) → Term → Run → Type 0 where
   finished : {made : ℕ} {t : Term} → Normal t → Runs fuel area made t (Run.end Outcome.finished)
   spent : {made : ℕ} {t : Term} → ¬ Normal t → made ≡ fuel → Runs fuel area made t (Run.end Outcome.spent)

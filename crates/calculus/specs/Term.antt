@@ -1,6 +1,5 @@
--- Terms, their text, their size, and which are normal.
--- Document 01: "`J`; `R` t; `H` r t (frozen application, r@t); `A` s t (closure, environment s, body t); `I`; `B` u s (pair);
--- `.` t u (application). .. The size of a term is its number of letters. A term is normal when it has no full stop."
+-- Terms, their text, their size, and which are normal (REQUIREMENTS, Terms): J and R are indices, H is frozen application, A a closure of an
+-- environment and a body, I the empty substitution, B a pair, app an application.
 use Prim.Native.Nat.{ℕ, suc, _+_}
 use mathlib.Core.List.{List, [], _∷_, _++_}
 use Rattle.calculus.specs.Letter.{Letter, byte}

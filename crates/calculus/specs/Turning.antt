@@ -1,6 +1,4 @@
--- Turning: the rules used forwards or backwards on any part, any finite number of times.
--- Document 01: "Two terms can be turned into each other when a finite chain of such changes, or none, leads from one to the other.
--- The terms between may be of any size."
+-- Turning (REQUIREMENTS, Turning): finitely many changes, each in either direction, through terms of any size.
 use Prim.Native.Nat.{ℕ}
 use Rattle.calculus.specs.Term.{Term}
 use Rattle.calculus.specs.Change.{Place, Change}

@@ -1,6 +1,5 @@
--- Types and their text.
--- Document 01: "Simple types: an atom `a` to `z`, or `>` U T with both simple (U to T). Contexts: `1` (empty), or `*` U G with U
--- simple and G a context. A type is either of these; no text is both."
+-- Types and their text (REQUIREMENTS, Types): simple types are atoms and arrows between simple types, contexts are lists of simple types, and a
+-- type is one of the two. `proofs/Parse.antt` of `types` shows that no text is of both.
 use Prim.Native.Nat.{ℕ, _≤_}
 use mathlib.Core.List.{List, [], _∷_, _++_}
 

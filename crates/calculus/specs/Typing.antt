@@ -1,9 +1,4 @@
--- The eight typing rules of figure 2, each as a judgement that follows from its premises.
--- Document 01: "Rules of figure 2, in a context G: `J`: term J, context `*` U D, type U. .. `R`: term R u, context `*` T D, type U
--- simple; premise: u has U in D. .. `H` and `f`: term H t u, or `.` t u; premises in G: t has `>` U T, u has U; type T. `A`: type
--- `>` U T; premises: s has context type D in G, t has simple T in `*` U D. `I`: type `1`, any context. .. `B`: premises in G: u has
--- simple U, s has context type D; type `*` U D. `s`: term `.` s t; premises: s has context type D in G, t has type W in D; type W,
--- simple or context. Premises stand in the order written."
+-- The eight typing rules of figure 2 (REQUIREMENTS, Typing), each as a judgement that follows from its premises, which stand in the paper's order.
 use Prim.Native.Nat.{ℕ}
 use mathlib.Core.List.{List, [], _∷_}
 use Rattle.calculus.specs.Letter.{Letter, byte}

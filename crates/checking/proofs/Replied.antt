@@ -1,29 +1,32 @@
 -- The answers of `line::check_line`, test by test, and of what it calls. Assumes nothing.
-use Prim.Native.Nat.{ℕ, zero, suc, _+_}
+use Prim.Native.Nat.{ℕ, zero, suc, _+_, _<_, min}
 use native.Mathlib.Omega.{arith}
 use mathlib.Core.Path.{_≡_, refl, sym, _∙_, ap, ap₂}
 use mathlib.Core.Bool.{Bool, true, false, _&&_}
 use mathlib.Core.List.{List, [], _∷_}
 use mathlib.Core.Option.{Option, none, some}
+use lib.Dec.{eqb}
 use lib.ListN.{length}
-use Rattle.reading.specs.Reply.{Reply}
+use Rattle.reading.specs.Reply.{Reply, numberIn}
 use Rattle.reading.specs.Reading.{atLetter, readingFrom, readingOf}
+use Rattle.calculus.specs.Limits.{lineLimit}
 use Rattle.calculus.specs.Letter.{Letter, letterOf, owed}
 use Rattle.calculus.specs.Term.{Term}
 use Rattle.calculus.specs.Parse.{Item, one, two, push, items, single, termOf}
 use Rattle.types.specs.Tests.{isSome}
-use Rattle.checking.specs.declared.fields.Judged.{Judged}
-use Rattle.checking.specs.declared.fields.SixFields.{SixFields}
-use Rattle.checking.specs.declared.premises.Cited.{Cited}
-use Rattle.checking.specs.declared.rules.Rule.{Rule}
-use Rattle.checking.specs.Fields.{judgedAt, hasSix, textsAt}
-use Rattle.checking.specs.Cited.{isLine, citedFit, startOr}
-use Rattle.checking.specs.TextInstance.{instanceText, countOf}
-use Rattle.checking.specs.TextChecking.{wellFormed, isKnown, instanceAt, isAnswered, unless, replyOf, ruleIn, firstIn, secondIn, lineReply}
+use Rattle.fields.specs.declared.Judged.{Judged}
+use Rattle.fields.specs.declared.SixFields.{SixFields}
+use Rattle.premises.specs.declared.Cited.{Cited}
+use Rattle.rules.specs.declared.Rule.{Rule}
+use Rattle.fields.specs.Fields.{judgedAt, hasSix, textsAt}
+use Rattle.premises.specs.Cited.{citedOf, citedFit, startOr}
+use Rattle.rules.specs.Rules.{isKnown, countOf}
+use Rattle.instances.specs.TextInstance.{instanceText}
+use Rattle.checking.specs.TextChecking.{wellFormed, instanceAt, unless, replyOf, ruleIn, firstIn, secondIn, lineReply}
 
 -- ---- the tests of a line, in their order
 
-abbrev tests : (a b c d e : Bool) → ℕ → Reply ℕ
+abbrev pub tests : (a b c d e : Bool) → ℕ → Reply ℕ
 tests a b c d e line = unless a 14 line (unless b 15 line (unless c 16 line (unless d 17 line (unless e 18 line (Reply.answered line)))))
 
 -- where the first tests held, the reply is what the others say
@@ -43,7 +46,8 @@ module _
   same-reply : replyOf file n line rule first second ≡ lineReply file starts n line
   unfolding lineReply
   same-reply =
-      ap (λ (r : Rule). replyOf file n line r first second) named ∙ ap₂ (λ (x y : Cited). replyOf file n line (ruleIn file line) x y) one two
+      ap (λ (r : Rule). replyOf file n line r first second) named
+      ∙ ap₂ (λ (x y : Cited). replyOf file n line (ruleIn file line) x y) one two
 
   abbrev six : Bool
   six = hasSix file line
@@ -65,24 +69,31 @@ module _
 
   pub unknown : six ≡ true → formed ≡ true → isKnown rule ≡ false → Reply.refused 16 (n + 1) ≡ lineReply file starts n line
   unknown p q r =
-      sym (ap₂ (λ (t u : Bool). tests t u (isKnown rule) fits inst (n + 1)) p q ∙ ap (λ (t : Bool). tests true true t fits inst (n + 1)) r) ∙ same-reply
+      sym (ap₂ (λ (t u : Bool). tests t u (isKnown rule) fits inst (n + 1)) p q ∙ ap (λ (t : Bool). tests true true t fits inst (n + 1)) r)
+      ∙ same-reply
 
-  pub bad-premise : six ≡ true → formed ≡ true → isKnown rule ≡ true → fits ≡ false → Reply.refused 17 (n + 1) ≡ lineReply file starts n line
+  pub bad-premise :
+      six ≡ true → formed ≡ true → isKnown rule ≡ true → fits ≡ false → Reply.refused 17 (n + 1) ≡ lineReply file starts n line
   bad-premise p q r s =
-      sym (ap₂ (λ (t u : Bool). tests t u (isKnown rule) fits inst (n + 1)) p q ∙ ap₂ (λ (t u : Bool). tests true true t u inst (n + 1)) r s) ∙ same-reply
+      sym (ap₂ (λ (t u : Bool). tests t u (isKnown rule) fits inst (n + 1)) p q
+      ∙ ap₂ (λ (t u : Bool). tests true true t u inst (n + 1)) r s) ∙ same-reply
 
-  pub no-instance : six ≡ true → formed ≡ true → isKnown rule ≡ true → fits ≡ true → inst ≡ false → Reply.refused 18 (n + 1) ≡ lineReply file starts n line
-  no-instance p q r s t = sym (held six formed (isKnown rule) fits inst (n + 1) p q r s ∙ ap (λ (u : Bool). tests true true true true u (n + 1)) t) ∙ same-reply
+  pub no-instance :
+      six ≡ true → formed ≡ true → isKnown rule ≡ true → fits ≡ true → inst ≡ false →
+      Reply.refused 18 (n + 1) ≡ lineReply file starts n line
+  no-instance p q r s t =
+      sym (held six formed (isKnown rule) fits inst (n + 1) p q r s ∙ ap (λ (u : Bool). tests true true true true u (n + 1)) t) ∙ same-reply
 
-  pub good : six ≡ true → formed ≡ true → isKnown rule ≡ true → fits ≡ true → inst ≡ true → Reply.answered (n + 1) ≡ lineReply file starts n line
-  good p q r s t = sym (held six formed (isKnown rule) fits inst (n + 1) p q r s ∙ ap (λ (u : Bool). tests true true true true u (n + 1)) t) ∙ same-reply
+  pub good :
+      six ≡ true → formed ≡ true → isKnown rule ≡ true → fits ≡ true → inst ≡ true → Reply.answered (n + 1) ≡ lineReply file starts n line
+  good p q r s t =
+      sym (held six formed (isKnown rule) fits inst (n + 1) p q r s ∙ ap (λ (u : Bool). tests true true true true u (n + 1)) t) ∙ same-reply
 
--- ---- two premises
+-- ---- premises
 
-pub two-fit : (count : ℕ) (first second : Cited) (r : Bool) → (count ≡ 0 → ⊥) → (count ≡ 1 → ⊥) → r ≡ (isLine first && isLine second) → r ≡ citedFit count first second
-two-fit zero first second r n m e = absurd (n refl)
-two-fit (suc zero) first second r n m e = absurd (m refl)
-two-fit (suc (suc count)) first second r n m e = e
+-- where fewer lines than the limit went before, a field may name any of them
+pub within : (n : ℕ) → n < lineLimit → min n lineLimit ≡ n
+within n h = omega arith
 
 -- ---- a term
 
@@ -129,16 +140,16 @@ some-item b (some Letter.I) is = refl
 some-item b (some Letter.B) is = two-some b Term.B is
 some-item b (some Letter.stop) is = two-some b Term.app is
 
--- reading answers a size exactly where the items are the terms owed
-reading-items : (k place : ℕ) (bytes : List ℕ) → isAnswered (readingFrom k place bytes) ≡ wholes k (items bytes)
+-- reading has no number exactly where the items are the terms owed
+reading-items : (k place : ℕ) (bytes : List ℕ) → eqb (numberIn (readingFrom k place bytes)) 0 ≡ wholes k (items bytes)
 reading-items zero place [] = refl
 reading-items zero place (b ∷ bytes) = sym (some-item b (letterOf b) (items bytes))
 reading-items (suc k) place [] = refl
 reading-items (suc k) place (b ∷ bytes) = go (letterOf b) (λ n. reading-items n (suc place) bytes)
   where
     go :
-        (o : Option Letter) → ((n : ℕ) → isAnswered (readingFrom n (suc place) bytes) ≡ wholes n (items bytes)) →
-        isAnswered (atLetter o place (λ l. readingFrom (owed l k) (suc place) bytes)) ≡ wholes (suc k) (push b o (items bytes))
+        (o : Option Letter) → ((n : ℕ) → eqb (numberIn (readingFrom n (suc place) bytes)) 0 ≡ wholes n (items bytes)) →
+        eqb (numberIn (atLetter o place (λ l. readingFrom (owed l k) (suc place) bytes))) 0 ≡ wholes (suc k) (push b o (items bytes))
     go none later = refl
     go (some Letter.J) later = later k
     go (some Letter.R) later = later (suc k) ∙ sym (one-taken k b Term.R (items bytes))
@@ -148,8 +159,8 @@ reading-items (suc k) place (b ∷ bytes) = go (letterOf b) (λ n. reading-items
     go (some Letter.B) later = later (suc (suc k)) ∙ sym (two-taken k b Term.B (items bytes))
     go (some Letter.stop) later = later (suc (suc k)) ∙ sym (two-taken k b Term.app (items bytes))
 
--- reading answers a size exactly where the bytes are a term's text
-pub reading-term : (bytes : List ℕ) → isAnswered (readingOf bytes) ≡ isSome (termOf bytes)
+-- reading has no number exactly where the bytes are a term's text
+pub reading-term : (bytes : List ℕ) → eqb (numberIn (readingOf bytes)) 0 ≡ isSome (termOf bytes)
 unfolding readingOf termOf
 reading-term bytes = reading-items 1 0 bytes ∙ one-item (items bytes)
   where
@@ -167,4 +178,5 @@ pub instance-named :
     r ≡ instanceText rule (textsAt own file) (textsAt i file) (textsAt k file) → r ≡ instanceAt file rule own first second
 instance-named file rule own i k first second m n r p q s t e =
     e ∙
-    ap₂ (λ (x y : Judged). instanceText rule (textsAt own file) (textsAt x file) (textsAt y file)) (q ∙ ap (judgedAt file) p) (t ∙ ap (judgedAt file) s)
+    ap₂ (λ (x y : Judged). instanceText rule (textsAt own file) (textsAt x file) (textsAt y file)) (q ∙ ap (judgedAt file) p)
+    (t ∙ ap (judgedAt file) s)

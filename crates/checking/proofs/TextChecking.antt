@@ -20,23 +20,26 @@ use Rattle.types.specs.Parse.{typeOf, contextOf}
 use Rattle.types.specs.Tests.{isSome}
 use Rattle.types.proofs.Parse.{text-typeOf, text-contextOf}
 use Rattle.slices.specs.Split.{fields}
-use Rattle.checking.specs.Line.{Premise, judgementIf, judgementOf, nameOf, premiseOf}
-use Rattle.checking.specs.Instance.{Premises, isInstance}
-use Rattle.checking.specs.Checking.{Found, earlierLine, noPremise, namedPremise, premisesNone, premisesOne, premisesTwo, premiseCount, premisesOf, foundIf, foundInstance, foundName, foundJudgement, foundFields}
-use Rattle.checking.specs.Texts.{textAt}
-use Rattle.checking.specs.Fields.{judgedAt, sixAt, hasSix, Texts, textsAt}
-use Rattle.checking.specs.Cited.{lineIf, citedOf, isDashed, isLine, citedFit, startOr}
-use Rattle.checking.specs.TextInstance.{ruleOf, instanceText, countOf}
-use Rattle.checking.specs.TextChecking.{wellFormed, isKnown, instanceAt, unless, sixReply, ruleIn, firstIn, secondIn, lineReply}
-use Rattle.checking.specs.declared.fields.SixFields.{SixFields}
-use Rattle.checking.specs.declared.premises.Cited.{Cited}
-use Rattle.checking.specs.declared.premises.Cited.the-variants.{Line, Nothing}
-use Rattle.checking.proofs.TextInstance.{textsOf, instance-none, instance-one, instance-two}
-use Rattle.checking.proofs.Cutting.{firstLine, six-found, six-missed}
+use Rattle.derivation_files.specs.Line.{Premise, judgementIf, judgementOf, nameOf, premiseOf}
+use Rattle.derivation_files.specs.Instance.{Premises, isInstance}
+use Rattle.derivation_files.specs.Checking.{Found, earlierLine, noPremise, namedPremise, premisesNone, premisesOne, premisesTwo}
+use Rattle.derivation_files.specs.Checking.{premiseCount, premisesOf, foundIf, foundInstance, foundName, foundJudgement, foundFields}
+use Rattle.fields.specs.Texts.{textAt}
+use Rattle.fields.specs.Fields.{judgedAt, sixAt, hasSix, Texts, textsAt}
+use Rattle.premises.specs.Cited.{lineIf, citedOf, isDashed, isLine, citedFit, startOr}
+use Rattle.rules.specs.Rules.{ruleOf, isKnown, countOf}
+use Rattle.instances.specs.TextInstance.{instanceText}
+use Rattle.checking.specs.TextChecking.{wellFormed, instanceAt, unless, sixReply, ruleIn, firstIn, secondIn, lineReply}
+use Rattle.fields.specs.declared.SixFields.{SixFields}
+use Rattle.premises.specs.declared.Cited.{Cited}
+use Rattle.premises.specs.declared.Cited.the-variants.{Line, Nothing}
+use Rattle.instances.proofs.TextInstance.{textsOf, instance-none, instance-one, instance-two}
+use Rattle.fields.proofs.Cutting.{firstLine, six-found, six-missed}
 
 -- the starts are those of the earlier lines: the texts of each are its judgement's
 abbrev pub Table : (file starts : List ℕ) → List Judgement → Type 0
-Table file starts earlier = (m : ℕ) (i : Judgement) → earlierLine earlier (suc m) ≡ some i → textsAt (judgedAt file (getD starts m 0)) file ≡ textsOf i
+Table file starts earlier =
+    (m : ℕ) (i : Judgement) → earlierLine earlier (suc m) ≡ some i → textsAt (judgedAt file (getD starts m 0)) file ≡ textsOf i
 
 -- `Verdict own line reply found`: the reply says of the line what is found of it, and its texts are those of the judgement found
 pub data Verdict (own : Texts) (line : ℕ) : Reply ℕ → Found → Type 0 where
@@ -73,9 +76,17 @@ dashed starts n (some (Premise.line m)) = go (ltb 0 m && leb m n)
 -- what a field names, by the code and by the definition: no line, or an earlier line whose texts are those of its judgement
 data Cites (file : List ℕ) (other : ℕ) : Cited → Option Judgement → Type 0 where
   nothing : {cited : Cited} → isLine cited ≡ false → Cites file other cited none
-  line : {cited : Cited} (i : Judgement) → isLine cited ≡ true → textsAt (judgedAt file (startOr other cited)) file ≡ textsOf i → Cites file other cited (some i)
+  line :
+      {cited : Cited} (i : Judgement) → isLine cited ≡ true → textsAt (judgedAt file (startOr other cited)) file ≡ textsOf i →
+      Cites file other cited (some i)
 
-module _ (file starts : List ℕ) (n : ℕ) (earlier : List Judgement) (count : length earlier ≡ n) (table : Table file starts earlier) (other : ℕ) where
+module _
+    (file starts : List ℕ)
+    (n : ℕ)
+    (earlier : List Judgement)
+    (count : length earlier ≡ n)
+    (table : Table file starts earlier)
+    (other : ℕ) where
   cites-line :
       (m : ℕ) → Dec (suc m ≤ n) →
       Cites file other (lineIf (ltb 0 (suc m) && leb (suc m) n) (getD starts (suc m - 1) 0)) (earlierLine earlier (suc m))
@@ -87,13 +98,16 @@ module _ (file starts : List ℕ) (n : ℕ) (earlier : List Judgement) (count : 
       subst₂ (λ (c : Cited) (o : Option Judgement). Cites file other c o) (sym named) (sym e) (Cites.line i refl (table m i e))
   cites-line m (no h) =
       let named : lineIf (ltb 0 (suc m) && leb (suc m) n) (getD starts (suc m - 1) 0) ≡ Nothing =
-      ap (λ (t : Bool). lineIf t (getD starts (suc m - 1) 0)) (ap₂ _&&_ (lt-ltb 0 (suc m) (omega arith)) (lt-leb (suc m) n (omega arith))) in
-      subst₂ (λ (c : Cited) (o : Option Judgement). Cites file other c o) (sym named) (sym (earlier-none earlier m (omega arith))) (Cites.nothing refl)
+      ap (λ (t : Bool). lineIf t (getD starts (suc m - 1) 0))
+      (ap₂ _&&_ (lt-ltb 0 (suc m) (omega arith)) (lt-leb (suc m) n (omega arith))) in
+      subst₂ (λ (c : Cited) (o : Option Judgement). Cites file other c o) (sym named) (sym (earlier-none earlier m (omega arith)))
+      (Cites.nothing refl)
 
   cites : (o : Option Premise) → Cites file other (citedOf starts n o) (namedPremise earlier o)
   cites none = Cites.nothing refl
   cites (some Premise.dash) = Cites.nothing refl
-  cites (some (Premise.line zero)) = subst (λ (o : Option Judgement). Cites file other Nothing o) (sym (earlier-zero earlier)) (Cites.nothing refl)
+  cites (some (Premise.line zero)) =
+      subst (λ (o : Option Judgement). Cites file other Nothing o) (sym (earlier-zero earlier)) (Cites.nothing refl)
   cites (some (Premise.line (suc m))) = cites-line m (decLe (suc m) n)
 
 -- ---- the tests of a line, from the last to the first
@@ -104,12 +118,18 @@ module _ (own : Texts) (line : ℕ) (name : Name) (j : Judgement) (same : own �
   judged false = Verdict.bad 18
 
   -- where the premises fit, the instance decides
-  fit : (fits inst test : Bool) → fits ≡ true → inst ≡ test → Verdict own line (unless fits 17 line (unless inst 18 line (Reply.answered line))) (foundIf test j)
+  fit :
+      (fits inst test : Bool) → fits ≡ true → inst ≡ test →
+      Verdict own line (unless fits 17 line (unless inst 18 line (Reply.answered line))) (foundIf test j)
   fit fits inst test p q =
-      subst₂ (λ (f i : Bool). Verdict own line (unless f 17 line (unless i 18 line (Reply.answered line))) (foundIf test j)) (sym p) (sym q) (judged test)
+      subst₂ (λ (f i : Bool). Verdict own line (unless f 17 line (unless i 18 line (Reply.answered line))) (foundIf test j)) (sym p) (sym q)
+      (judged test)
 
-  unfit : (fits inst : Bool) → fits ≡ false → Verdict own line (unless fits 17 line (unless inst 18 line (Reply.answered line))) (Found.bad 17)
-  unfit fits inst p = subst (λ (f : Bool). Verdict own line (unless f 17 line (unless inst 18 line (Reply.answered line))) (Found.bad 17)) (sym p) (Verdict.bad 17)
+  unfit :
+      (fits inst : Bool) → fits ≡ false → Verdict own line (unless fits 17 line (unless inst 18 line (Reply.answered line))) (Found.bad 17)
+  unfit fits inst p =
+      subst (λ (f : Bool). Verdict own line (unless f 17 line (unless inst 18 line (Reply.answered line))) (Found.bad 17)) (sym p)
+      (Verdict.bad 17)
 
   by-none :
       (fits inst first second : Bool) → fits ≡ (first && second) → inst ≡ isInstance name Premises.none j →
@@ -120,26 +140,36 @@ module _ (own : Texts) (line : ℕ) (name : Name) (j : Judgement) (same : own �
 
   module _ (file : List ℕ) (other : ℕ) where
     by-one :
-        (fits inst : Bool) {cited : Cited} {o : Option Judgement} (second : Bool) → Cites file other cited o → fits ≡ (isLine cited && second) →
+        (fits inst : Bool) {cited : Cited} {o : Option Judgement} (second : Bool) → Cites file other cited o →
+        fits ≡ (isLine cited && second) →
         ((i : Judgement) → textsAt (judgedAt file (startOr other cited)) file ≡ textsOf i → inst ≡ isInstance name (Premises.one i) j) →
         Verdict own line (unless fits 17 line (unless inst 18 line (Reply.answered line))) (foundInstance name j (premisesOne o second))
     by-one fits inst second (Cites.nothing e) p q = unfit fits inst (p ∙ ap (λ (t : Bool). t && second) e)
-    by-one fits inst true (Cites.line i e t) p q = fit fits inst (isInstance name (Premises.one i) j) (p ∙ ap (λ (t : Bool). t && true) e) (q i t)
+    by-one fits inst true (Cites.line i e t) p q =
+        fit fits inst (isInstance name (Premises.one i) j) (p ∙ ap (λ (t : Bool). t && true) e) (q i t)
     by-one fits inst false (Cites.line i e t) p q = unfit fits inst (p ∙ ap (λ (t : Bool). t && false) e)
 
     by-two :
         (fits inst : Bool) {cited cited′ : Cited} {o o′ : Option Judgement} → Cites file other cited o → Cites file other cited′ o′ →
         fits ≡ (isLine cited && isLine cited′) →
-        ((i k : Judgement) → textsAt (judgedAt file (startOr other cited)) file ≡ textsOf i → textsAt (judgedAt file (startOr other cited′)) file ≡ textsOf k →
+        ((i k : Judgement) → textsAt (judgedAt file (startOr other cited)) file ≡ textsOf i →
+        textsAt (judgedAt file (startOr other cited′)) file ≡ textsOf k →
         inst ≡ isInstance name (Premises.two i k) j) →
         Verdict own line (unless fits 17 line (unless inst 18 line (Reply.answered line))) (foundInstance name j (premisesTwo o o′))
     by-two fits inst {cited′ = cited′} (Cites.nothing e) second p q = unfit fits inst (p ∙ ap (λ (t : Bool). t && isLine cited′) e)
     by-two fits inst (Cites.line i e t) (Cites.nothing d) p q = unfit fits inst (p ∙ ap₂ _&&_ e d)
-    by-two fits inst (Cites.line i e t) (Cites.line k d u) p q = fit fits inst (isInstance name (Premises.two i k) j) (p ∙ ap₂ _&&_ e d) (q i k t u)
+    by-two fits inst (Cites.line i e t) (Cites.line k d u) p q =
+        fit fits inst (isInstance name (Premises.two i k) j) (p ∙ ap₂ _&&_ e d) (q i k t u)
 
 -- ---- one line
 
-module _ (file starts : List ℕ) (n : ℕ) (earlier : List Judgement) (count : length earlier ≡ n) (table : Table file starts earlier) (six : SixFields) where
+module _
+    (file starts : List ℕ)
+    (n : ℕ)
+    (earlier : List Judgement)
+    (count : length earlier ≡ n)
+    (table : Table file starts earlier)
+    (six : SixFields) where
   -- the texts of the line, what its premise fields name, and the texts of the lines named
   abbrev mine : Texts
   mine = textsAt (six .own) file
@@ -162,19 +192,25 @@ module _ (file starts : List ℕ) (n : ℕ) (earlier : List Judgement) (count : 
   cites-two : Cites file (length file) two (namedPremise earlier (premiseOf (textAt (six .second) file)))
   cites-two = cites file starts n earlier count table (length file) (premiseOf (textAt (six .second) file))
 
-  dashes : (isDashed one && isDashed two) ≡ (noPremise (premiseOf (textAt (six .first) file)) && noPremise (premiseOf (textAt (six .second) file)))
+  dashes :
+      (isDashed one && isDashed two)
+      ≡ (noPremise (premiseOf (textAt (six .first) file)) && noPremise (premiseOf (textAt (six .second) file)))
   dashes = ap₂ _&&_ (dashed starts n (premiseOf (textAt (six .first) file))) (dashed starts n (premiseOf (textAt (six .second) file)))
 
   -- the rule is named: 17 or 18, or the line is good
   abbrev ByRule : Name → Judgement → Type 0
   ByRule name j =
       Verdict mine (n + 1)
-      (unless (citedFit (countOf (ruleOf (some name))) one two) 17 (n + 1) (unless (instanceAt file (ruleOf (some name)) (six .own) one two) 18 (n + 1) (Reply.answered (n + 1))))
-      (foundInstance name j (premisesOf (premiseCount name) earlier (premiseOf (textAt (six .first) file)) (premiseOf (textAt (six .second) file))))
+      (unless (citedFit (countOf (ruleOf (some name))) one two) 17 (n + 1)
+      (unless (instanceAt file (ruleOf (some name)) (six .own) one two) 18 (n + 1) (Reply.answered (n + 1))))
+      (foundInstance name j
+      (premisesOf (premiseCount name) earlier (premiseOf (textAt (six .first) file)) (premiseOf (textAt (six .second) file))))
 
   module _ (j : Judgement) (same : mine ≡ textsOf j) where
-    none-named : (name : Name) → premiseCount name ≡ 0 → instanceAt file (ruleOf (some name)) (six .own) one two ≡ isInstance name Premises.none j
-    none-named name e = ap (λ (x : Texts). instanceText (ruleOf (some name)) x oneTexts twoTexts) same ∙ instance-none name j oneTexts twoTexts e
+    none-named :
+        (name : Name) → premiseCount name ≡ 0 → instanceAt file (ruleOf (some name)) (six .own) one two ≡ isInstance name Premises.none j
+    none-named name e =
+        ap (λ (x : Texts). instanceText (ruleOf (some name)) x oneTexts twoTexts) same ∙ instance-none name j oneTexts twoTexts e
 
     one-named :
         (name : Name) → premiseCount name ≡ 1 → (i : Judgement) → oneTexts ≡ textsOf i →
@@ -190,18 +226,26 @@ module _ (file starts : List ℕ) (n : ℕ) (earlier : List Judgement) (count : 
 
     both :
         (name : Name) →
-        ((i k : Judgement) → oneTexts ≡ textsOf i → twoTexts ≡ textsOf k → instanceAt file (ruleOf (some name)) (six .own) one two ≡ isInstance name (Premises.two i k) j) →
+        ((i k : Judgement) → oneTexts ≡ textsOf i → twoTexts ≡ textsOf k →
+        instanceAt file (ruleOf (some name)) (six .own) one two ≡ isInstance name (Premises.two i k) j) →
         Verdict mine (n + 1)
-        (unless (isLine one && isLine two) 17 (n + 1) (unless (instanceAt file (ruleOf (some name)) (six .own) one two) 18 (n + 1) (Reply.answered (n + 1))))
-        (foundInstance name j (premisesTwo (namedPremise earlier (premiseOf (textAt (six .first) file))) (namedPremise earlier (premiseOf (textAt (six .second) file)))))
-    both name named = by-two mine (n + 1) name j same file (length file) (isLine one && isLine two) (instanceAt file (ruleOf (some name)) (six .own) one two) cites-one cites-two refl named
+        (unless (isLine one && isLine two) 17 (n + 1)
+        (unless (instanceAt file (ruleOf (some name)) (six .own) one two) 18 (n + 1) (Reply.answered (n + 1))))
+        (foundInstance name j
+        (premisesTwo (namedPremise earlier (premiseOf (textAt (six .first) file)))
+        (namedPremise earlier (premiseOf (textAt (six .second) file)))))
+    both name named =
+        by-two mine (n + 1) name j same file (length file) (isLine one && isLine two)
+        (instanceAt file (ruleOf (some name)) (six .own) one two) cites-one cites-two refl named
 
     by-rule : (name : Name) → ByRule name j
     by-rule Name.J =
         by-none mine (n + 1) Name.J j same (isDashed one && isDashed two) (instanceAt file (ruleOf (some Name.J)) (six .own) one two)
-        (noPremise (premiseOf (textAt (six .first) file))) (noPremise (premiseOf (textAt (six .second) file))) dashes (none-named Name.J refl)
+        (noPremise (premiseOf (textAt (six .first) file))) (noPremise (premiseOf (textAt (six .second) file))) dashes
+        (none-named Name.J refl)
     by-rule Name.R =
-        by-one mine (n + 1) Name.R j same file (length file) (isLine one && isDashed two) (instanceAt file (ruleOf (some Name.R)) (six .own) one two)
+        by-one mine (n + 1) Name.R j same file (length file) (isLine one && isDashed two)
+        (instanceAt file (ruleOf (some Name.R)) (six .own) one two)
         (noPremise (premiseOf (textAt (six .second) file))) cites-one
         (ap (λ (t : Bool). isLine one && t) (dashed starts n (premiseOf (textAt (six .second) file)))) (one-named Name.R refl)
     by-rule Name.H = both Name.H (two-named Name.H refl)
@@ -209,7 +253,8 @@ module _ (file starts : List ℕ) (n : ℕ) (earlier : List Judgement) (count : 
     by-rule Name.f = both Name.f (two-named Name.f refl)
     by-rule Name.I =
         by-none mine (n + 1) Name.I j same (isDashed one && isDashed two) (instanceAt file (ruleOf (some Name.I)) (six .own) one two)
-        (noPremise (premiseOf (textAt (six .first) file))) (noPremise (premiseOf (textAt (six .second) file))) dashes (none-named Name.I refl)
+        (noPremise (premiseOf (textAt (six .first) file))) (noPremise (premiseOf (textAt (six .second) file))) dashes
+        (none-named Name.I refl)
     by-rule Name.B = both Name.B (two-named Name.B refl)
     by-rule Name.s = both Name.s (two-named Name.s refl)
 
@@ -218,7 +263,8 @@ module _ (file starts : List ℕ) (n : ℕ) (earlier : List Judgement) (count : 
       (j : Judgement) → mine ≡ textsOf j → (o : Option Name) →
       Verdict mine (n + 1)
       (unless (isKnown (ruleOf o)) 16 (n + 1)
-      (unless (citedFit (countOf (ruleOf o)) one two) 17 (n + 1) (unless (instanceAt file (ruleOf o) (six .own) one two) 18 (n + 1) (Reply.answered (n + 1)))))
+      (unless (citedFit (countOf (ruleOf o)) one two) 17 (n + 1)
+      (unless (instanceAt file (ruleOf o) (six .own) one two) 18 (n + 1) (Reply.answered (n + 1)))))
       (foundName earlier j o (textAt (six .first) file) (textAt (six .second) file))
   by-name j same none = Verdict.bad 16
   by-name j same (some Name.J) = by-rule j same Name.J
@@ -232,11 +278,13 @@ module _ (file starts : List ℕ) (n : ℕ) (earlier : List Judgement) (count : 
 
   -- there are six fields: 15 to 18, or the line is good
   by-fields :
-      (G : Option Context) (t : Option Term) (W : Option Ty) → contextOf (mine .context) ≡ G → termOf (mine .term) ≡ t → typeOf (mine .type) ≡ W →
+      (G : Option Context) (t : Option Term) (W : Option Ty) → contextOf (mine .context) ≡ G → termOf (mine .term) ≡ t →
+      typeOf (mine .type) ≡ W →
       Verdict mine (n + 1)
       (unless (isSome G && isSome t && isSome W) 15 (n + 1)
       (unless (isKnown (ruleIn file six)) 16 (n + 1)
-      (unless (citedFit (countOf (ruleIn file six)) one two) 17 (n + 1) (unless (instanceAt file (ruleIn file six) (six .own) one two) 18 (n + 1) (Reply.answered (n + 1))))))
+      (unless (citedFit (countOf (ruleIn file six)) one two) 17 (n + 1)
+      (unless (instanceAt file (ruleIn file six) (six .own) one two) 18 (n + 1) (Reply.answered (n + 1))))))
       (foundJudgement earlier (judgementIf G t W) (textAt (six .rule) file) (textAt (six .first) file) (textAt (six .second) file))
   by-fields none t W p q r = Verdict.bad 15
   by-fields (some G) none W p q r = Verdict.bad 15
@@ -250,27 +298,44 @@ module _ (file starts : List ℕ) (n : ℕ) (earlier : List Judgement) (count : 
         type = sym (text-typeOf (mine .type) W r) i;
       }
 
+-- a line that has not six fields
+not-six : (earlier : List Judgement) (fs : List (List ℕ)) → (length fs ≡ 6 → ⊥) → foundFields earlier fs ≡ Found.bad 14
+not-six earlier [] n = refl
+not-six earlier (a ∷ []) n = refl
+not-six earlier (a ∷ b ∷ []) n = refl
+not-six earlier (a ∷ b ∷ c ∷ []) n = refl
+not-six earlier (a ∷ b ∷ c ∷ d ∷ []) n = refl
+not-six earlier (a ∷ b ∷ c ∷ d ∷ e ∷ []) n = refl
+not-six earlier (a ∷ b ∷ c ∷ d ∷ e ∷ f ∷ []) n = absurd (n refl)
+not-six earlier (a ∷ b ∷ c ∷ d ∷ e ∷ f ∷ g ∷ more) n = refl
+
 -- the line that begins at an index comes to what is found of it
 pub line-verdict :
     (file starts : List ℕ) (n : ℕ) (earlier : List Judgement) → length earlier ≡ n → Table file starts earlier → (at : ℕ) →
-    Verdict (textsAt (judgedAt file at) file) (n + 1) (lineReply file starts n (sixAt file at)) (foundFields earlier (fields (firstLine (drop at file))))
+    Verdict (textsAt (judgedAt file at) file) (n + 1) (lineReply file starts n (sixAt file at))
+    (foundFields earlier (fields (firstLine (drop at file))))
 unfolding lineReply sixAt
 line-verdict file starts n earlier count table at = go (hasSix file (sixAt file at)) refl
   where
     onwards : Reply ℕ
-    onwards = sixReply file n (sixAt file at) (ruleIn file (sixAt file at)) (firstIn file starts n (sixAt file at)) (secondIn file starts n (sixAt file at))
+    onwards =
+        sixReply file n (sixAt file at) (ruleIn file (sixAt file at)) (firstIn file starts n (sixAt file at))
+        (secondIn file starts n (sixAt file at))
 
     go :
         (t : Bool) → hasSix file (sixAt file at) ≡ t →
-        Verdict (textsAt (judgedAt file at) file) (n + 1) (lineReply file starts n (sixAt file at)) (foundFields earlier (fields (firstLine (drop at file))))
+        Verdict (textsAt (judgedAt file at) file) (n + 1) (lineReply file starts n (sixAt file at))
+        (foundFields earlier (fields (firstLine (drop at file))))
     go true e =
         subst₂
-        (λ (t : Bool) (fs : List (List ℕ)). Verdict (textsAt (judgedAt file at) file) (n + 1) (unless t 14 (n + 1) onwards) (foundFields earlier fs))
+        (λ (t : Bool) (fs : List (List ℕ)). Verdict (textsAt (judgedAt file at) file) (n + 1) (unless t 14 (n + 1) onwards)
+        (foundFields earlier fs))
         (sym e) (sym (six-found file at e .0))
         (by-fields file starts n earlier count table (sixAt file at)
-        (contextOf (mine file starts n earlier count table (sixAt file at) .context)) (termOf (mine file starts n earlier count table (sixAt file at) .term))
+        (contextOf (mine file starts n earlier count table (sixAt file at) .context))
+        (termOf (mine file starts n earlier count table (sixAt file at) .term))
         (typeOf (mine file starts n earlier count table (sixAt file at) .type)) refl refl refl)
     go false e =
         subst₂
         (λ (t : Bool) (found : Found). Verdict (textsAt (judgedAt file at) file) (n + 1) (unless t 14 (n + 1) onwards) found)
-        (sym e) (sym (six-missed file at earlier e)) (Verdict.bad 14)
+        (sym e) (sym (not-six earlier (fields (firstLine (drop at file))) (six-missed file at e))) (Verdict.bad 14)

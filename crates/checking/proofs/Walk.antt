@@ -11,15 +11,22 @@ use borrow.Author.Tests.{eq-eqb, ne-eqb, lt-ltb, le-ltb}
 use lib.Dec.{eqb, ltb}
 use lib.ListN.{length, getD, drop, set, drop-of-length-le, length-append, length-set}
 use lib.Seq.{drop-cons, getD-set-same, getD-set-other}
-use Rattle.reading.specs.Reply.{Reply, refuseIf}
+use Rattle.reading.specs.Reply.{Reply, numberIn, refuseIf}
+use Rattle.calculus.specs.Limits.{fileLimit, lineLimit}
 use Rattle.calculus.specs.Typing.{Judgement}
-use Rattle.slices.specs.Split.{consFirst, cutOr, split, allButLast, lines, fields, lastByte}
-use Rattle.checking.specs.Checking.{Found, earlierLine, foundFields, onward, checkLines, checkingOf}
-use Rattle.checking.specs.Fields.{judgedAt, sixAt, hasSix, Texts, textsAt}
-use Rattle.checking.specs.TextChecking.{isAnswered, unless, sixReply, ruleIn, firstIn, secondIn, lineReply}
-use Rattle.checking.specs.declared.fields.SixFields.{SixFields}
-use Rattle.checking.proofs.TextInstance.{textsOf}
-use Rattle.checking.proofs.Cutting.{headOf, tailOf, firstLine, laterPieces, some-piece, six-found, line-ends}
+use Rattle.slices.specs.Split.{lineFeed, consFirst, cutOr, split, allButLast, lines, fields, lastByte}
+use Rattle.derivation_files.specs.Checking.{Found, earlierLine, foundFields, onward, checkLines, checkingOf}
+use Rattle.fields.specs.Fields.{judgedAt, sixAt, hasSix, Texts, textsAt}
+use Rattle.checking.specs.TextChecking.{wellFormed, instanceAt, isAnswered, unless, sixReply, ruleIn, firstIn, secondIn, lineReply}
+use Rattle.premises.specs.Cited.{citedFit}
+use Rattle.rules.specs.Rules.{isKnown, countOf}
+use Rattle.checking.specs.Claim.{claimTexts, nowhere}
+use Rattle.fields.specs.declared.Judged.{Judged}
+use Rattle.checking.proofs.Claimed.{Claimed, claim-start, claim-next, claim-end}
+use Rattle.checking.proofs.Replied.{tests}
+use Rattle.fields.specs.declared.SixFields.{SixFields}
+use Rattle.instances.proofs.TextInstance.{textsOf}
+use Rattle.fields.proofs.Cutting.{headOf, tailOf, firstLine, laterPieces, some-piece, six-found, line-ends}
 use Rattle.checking.proofs.TextChecking.{Table, Verdict, earlier-none, line-verdict}
 
 -- ---- a line is left
@@ -31,26 +38,29 @@ last-drop (suc at) (b ∷ []) h = absurd (omega arith)
 last-drop (suc at) (b ∷ c ∷ s) h = last-drop at (c ∷ s) (omega arith)
 
 -- bytes whose last is a line feed hold a line
-feeds : (b : ℕ) (s : List ℕ) → lastByte (b ∷ s) ≡ 10 → laterPieces (b ∷ s) ≡ [] → ⊥
-feeds b [] e none-left = let z : _≡_ {A = ℕ} 0 1 = ap length (sym none-left ∙ ap (λ (t : Bool). tailOf (cutOr t b ([] ∷ []))) (eq-eqb b 10 e)) in omega arith
-feeds b (c ∷ s) e none-left = go (eqb b 10) (split 10 (c ∷ s)) (some-piece 10 (c ∷ s)) (feeds c s e) none-left
+feeds : (b : ℕ) (s : List ℕ) → lastByte (b ∷ s) ≡ lineFeed → laterPieces (b ∷ s) ≡ [] → ⊥
+feeds b [] e none-left =
+    let z : _≡_ {A = ℕ} 0 1 = ap length (sym none-left ∙ ap (λ (t : Bool). tailOf (cutOr t b ([] ∷ []))) (eq-eqb b lineFeed e)) in
+    omega arith
+feeds b (c ∷ s) e none-left = go (eqb b lineFeed) (split lineFeed (c ∷ s)) (some-piece lineFeed (c ∷ s)) (feeds c s e) none-left
   where
     go :
-        (t : Bool) (pieces : List (List ℕ)) → pieces ≡ headOf pieces ∷ tailOf pieces → (tailOf pieces ≡ [] → ⊥) → tailOf (cutOr t b pieces) ≡ [] → ⊥
+        (t : Bool) (pieces : List (List ℕ)) → pieces ≡ headOf pieces ∷ tailOf pieces → (tailOf pieces ≡ [] → ⊥) →
+        tailOf (cutOr t b pieces) ≡ [] → ⊥
     go true pieces some-p later e = let z : _≡_ {A = ℕ} (suc (length (tailOf pieces))) 0 = ap length (sym some-p ∙ e) in omega arith
     go false [] some-p later e = later e
     go false (piece ∷ pieces) some-p later e = later e
 
-pub line-left : (s : List ℕ) (at : ℕ) → lastByte s ≡ 10 → at < length s → laterPieces (drop at s) ≡ [] → ⊥
+pub line-left : (s : List ℕ) (at : ℕ) → lastByte s ≡ lineFeed → at < length s → laterPieces (drop at s) ≡ [] → ⊥
 line-left s at last h = go (drop at s) refl (last-drop at s h ∙ last)
   where
-    go : (l : List ℕ) → drop at s ≡ l → lastByte l ≡ 10 → laterPieces l ≡ [] → ⊥
+    go : (l : List ℕ) → drop at s ≡ l → lastByte l ≡ lineFeed → laterPieces l ≡ [] → ⊥
     go [] e q none-left = absurd (omega arith)
     go (b ∷ l) e q none-left = feeds b l q none-left
 
 -- the first line, and the lines behind it
 lines-first : (bytes : List ℕ) → (laterPieces bytes ≡ [] → ⊥) → lines bytes ≡ firstLine bytes ∷ allButLast (laterPieces bytes)
-lines-first bytes more = ap allButLast (some-piece 10 bytes) ∙ go (laterPieces bytes) more
+lines-first bytes more = ap allButLast (some-piece lineFeed bytes) ∙ go (laterPieces bytes) more
   where
     go : (pieces : List (List ℕ)) → (pieces ≡ [] → ⊥) → allButLast (firstLine bytes ∷ pieces) ≡ firstLine bytes ∷ allButLast pieces
     go [] more = absurd (more refl)
@@ -70,18 +80,43 @@ found-good :
 found-good own line reply found (Verdict.good j e) answer = (j, e, refl)
 found-good own line reply found (Verdict.bad number) answer = absurd (false≢true answer)
 
+-- a line that is not refused is answered: a refusal has a number
+pub unrefused :
+    (file starts : List ℕ) (n : ℕ) (line : SixFields) → numberIn (lineReply file starts n line) ≡ 0 →
+    isAnswered (lineReply file starts n line) ≡ true
+unfolding lineReply
+unrefused file starts n line =
+    go (hasSix file line) (wellFormed (textsAt (line .own) file)) (isKnown (ruleIn file line))
+    (citedFit (countOf (ruleIn file line)) (firstIn file starts n line) (secondIn file starts n line))
+    (instanceAt file (ruleIn file line) (line .own) (firstIn file starts n line) (secondIn file starts n line))
+  where
+    go : (a b c d e : Bool) → numberIn (tests a b c d e (n + 1)) ≡ 0 → isAnswered (tests a b c d e (n + 1)) ≡ true
+    go false b c d e z = absurd (omega arith)
+    go true false c d e z = absurd (omega arith)
+    go true true false d e z = absurd (omega arith)
+    go true true true false e z = absurd (omega arith)
+    go true true true true false z = absurd (omega arith)
+    go true true true true true z = refl
+
 -- a good line has six fields
-answered-six : (file starts : List ℕ) (n : ℕ) (line : SixFields) → isAnswered (lineReply file starts n line) ≡ true → hasSix file line ≡ true
+answered-six :
+    (file starts : List ℕ) (n : ℕ) (line : SixFields) → isAnswered (lineReply file starts n line) ≡ true → hasSix file line ≡ true
 unfolding lineReply
 answered-six file starts n line = go (hasSix file line)
   where
-    go : (t : Bool) → isAnswered (unless t 14 (n + 1) (sixReply file n line (ruleIn file line) (firstIn file starts n line) (secondIn file starts n line))) ≡ true → t ≡ true
+    go :
+        (t : Bool) →
+        isAnswered
+        (unless t 14 (n + 1) (sixReply file n line (ruleIn file line) (firstIn file starts n line) (secondIn file starts n line))) ≡ true →
+        t ≡ true
     go true e = refl
     go false e = e
 
 -- ---- the table, one line longer
 
-earlier-front : (earlier : List Judgement) (j : Judgement) (m : ℕ) → m < length earlier → earlierLine (earlier ++ (j ∷ [])) (suc m) ≡ earlierLine earlier (suc m)
+earlier-front :
+    (earlier : List Judgement) (j : Judgement) (m : ℕ) → m < length earlier →
+    earlierLine (earlier ++ (j ∷ [])) (suc m) ≡ earlierLine earlier (suc m)
 earlier-front [] j m h = absurd (omega arith)
 earlier-front (i ∷ is) j zero h = refl
 earlier-front (i ∷ is) j (suc m) h = earlier-front is j m (omega arith)
@@ -102,7 +137,8 @@ table-longer file starts earlier j n at count room same table m i e = go (decLe 
     go (no above) (yes up) =
         let here : m ≡ n = omega arith in
         let place : getD (set starts n at) m 0 ≡ at = ap (λ (k : ℕ). getD (set starts n at) k 0) here ∙ getD-set-same starts n at 0 room in
-        let found : some j ≡ some i = sym (ap (λ (k : ℕ). earlierLine (earlier ++ (j ∷ [])) (suc k)) (here ∙ sym count) ∙ earlier-last earlier j) ∙ e in
+        let found : some j ≡ some i = sym
+        (ap (λ (k : ℕ). earlierLine (earlier ++ (j ∷ [])) (suc k)) (here ∙ sym count) ∙ earlier-last earlier j) ∙ e in
         let which : j ≡ i = cc in
         ap (λ (k : ℕ). textsAt (judgedAt file k) file) place ∙ same ∙ ap textsOf which
     go (no above) (no past) =
@@ -111,16 +147,17 @@ table-longer file starts earlier j n at count room same table m i e = go (decLe 
 
 -- ---- the lines passed
 
--- n lines were passed, each of them good, and the next begins at `at`; what is to come decides the whole
-pub record Passed (file starts : List ℕ) (n at : ℕ) : Type 0 where
+-- n lines were passed, each of them good, the last with that claim, and the next begins at `at`; what is to come decides the whole
+pub record Passed (file starts : List ℕ) (n at : ℕ) (claim : Judged) : Type 0 where
   pub earlier : List Judgement
   pub count : length earlier ≡ n
-  pub size : length starts ≡ 1024
+  pub size : length starts ≡ lineLimit
   pub table : Table file starts earlier
   pub left : n + length (lines (drop at file)) ≡ length (lines file)
   pub comes : checkLines n earlier (lines (drop at file)) ≡ checkLines 0 [] (lines file)
+  pub claimed : Claimed file claim at
 
-pub start : (file starts : List ℕ) → length starts ≡ 1024 → Passed file starts 0 0
+pub start : (file starts : List ℕ) → length starts ≡ lineLimit → Passed file starts 0 0 nowhere
 start file starts size =
     record {
       earlier = [];
@@ -129,77 +166,111 @@ start file starts size =
       table = λ m i e. cc;
       left = omega arith;
       comes = refl;
+      claimed = claim-start file;
     }
 
-pub at-end : (file starts : List ℕ) (n at : ℕ) → Passed file starts n at → length file ≤ at → Reply.answered n ≡ checkLines 0 [] (lines file)
-at-end file starts n at passed h = ap (λ (l : List ℕ). checkLines n (passed .earlier) (lines l)) (sym (drop-of-length-le file h)) ∙ passed .comes
+-- what the code answers behind the last line
+pub at-end :
+    (file starts : List ℕ) (n at : ℕ) (claim : Judged) → Passed file starts n at claim → length file ≤ at →
+    (Reply.answered n ≡ checkLines 0 [] (lines file)) × (textsAt claim file ≡ claimTexts (checkLines 0 [] (lines file)) file)
+at-end file starts n at claim passed h =
+    let whole : Reply.answered n ≡ checkLines 0 [] (lines file) =
+    ap (λ (l : List ℕ). checkLines n (passed .earlier) (lines l)) (sym (drop-of-length-le file h)) ∙ passed .comes in
+    (whole, claim-end file claim n at (checkLines 0 [] (lines file)) (passed .claimed) h whole)
 
-module _ (file starts : List ℕ) (n at : ℕ) (passed : Passed file starts n at) (last : lastByte file ≡ 10) (within : at < length file) where
+module _
+    (file starts : List ℕ)
+    (n at : ℕ)
+    (claim : Judged)
+    (passed : Passed file starts n at claim)
+    (last : lastByte file ≡ lineFeed)
+    (within : at < length file) where
   one-line : lines (drop at file) ≡ firstLine (drop at file) ∷ allButLast (laterPieces (drop at file))
   one-line = lines-first (drop at file) (line-left file at last within)
 
-  pub room : length (lines file) ≤ 1024 → n < 1024
+  pub room : length (lines file) ≤ lineLimit → n < lineLimit
   room few = let one = ap length one-line in omega (arith, passed .left)
 
   verdict :
-      Verdict (textsAt (judgedAt file at) file) (n + 1) (lineReply file starts n (sixAt file at)) (foundFields (passed .earlier) (fields (firstLine (drop at file))))
+      Verdict (textsAt (judgedAt file at) file) (n + 1) (lineReply file starts n (sixAt file at))
+      (foundFields (passed .earlier) (fields (firstLine (drop at file))))
   verdict = line-verdict file starts n (passed .earlier) (passed .count) (passed .table) at
 
-  pub refused : isAnswered (lineReply file starts n (sixAt file at)) ≡ false → lineReply file starts n (sixAt file at) ≡ checkLines 0 [] (lines file)
+  pub refused :
+      isAnswered (lineReply file starts n (sixAt file at)) ≡ false → lineReply file starts n (sixAt file at) ≡ checkLines 0 [] (lines file)
   refused no-answer =
-      refused-whole (textsAt (judgedAt file at) file) n (lineReply file starts n (sixAt file at)) (foundFields (passed .earlier) (fields (firstLine (drop at file))))
+      refused-whole (textsAt (judgedAt file at) file) n (lineReply file starts n (sixAt file at))
+      (foundFields (passed .earlier) (fields (firstLine (drop at file))))
       (λ j. checkLines (suc n) (passed .earlier ++ (j ∷ [])) (allButLast (laterPieces (drop at file)))) verdict no-answer ∙
       ap (checkLines n (passed .earlier)) (sym one-line) ∙ passed .comes
 
   -- behind a good line
   pub again :
-      isAnswered (lineReply file starts n (sixAt file at)) ≡ true → length (lines file) ≤ 1024 →
-      (sixAt file at .second .to < length file) × Passed file (set starts n at) (n + 1) (sixAt file at .second .to + 1)
+      isAnswered (lineReply file starts n (sixAt file at)) ≡ true → length (lines file) ≤ lineLimit →
+      (sixAt file at .second .to < length file) × Passed file (set starts n at) (n + 1) (sixAt file at .second .to + 1) (sixAt file at .own)
   again answer few =
-      let (ends, later) = line-ends file at (answered-six file starts n (sixAt file at) answer) (line-left file at last within) in
-      let (j, same, good) = found-good (textsAt (judgedAt file at) file) (n + 1) (lineReply file starts n (sixAt file at)) (foundFields (passed .earlier) (fields (firstLine (drop at file)))) verdict answer in
-      let rest : lines (drop at file) ≡ firstLine (drop at file) ∷ lines (drop (sixAt file at .second .to + 1) file) = one-line ∙ ap (λ (ps : List (List ℕ)). firstLine (drop at file) ∷ allButLast ps) later in
+      let six = answered-six file starts n (sixAt file at) answer in
+      let (ends, later) = line-ends file at six (line-left file at last within) in
+      let (j, same, good) = found-good (textsAt (judgedAt file at) file) (n + 1) (lineReply file starts n (sixAt file at))
+      (foundFields (passed .earlier) (fields (firstLine (drop at file)))) verdict answer in
+      let rest : lines (drop at file) ≡ firstLine (drop at file) ∷ lines (drop (sixAt file at .second .to + 1) file) = one-line
+      ∙ ap (λ (ps : List (List ℕ)). firstLine (drop at file) ∷ allButLast ps) later in
       let one = ap length rest in (
         ends,
         record {
           earlier = passed .earlier ++ (j ∷ []);
           count = omega (arith, length-append (passed .earlier) (j ∷ []), passed .count);
           size = length-set starts n at ∙ passed .size;
-          table = table-longer file starts (passed .earlier) j n at (passed .count) (omega (arith, passed .size, room few)) same (passed .table);
+          table =
+              table-longer file starts (passed .earlier) j n at (passed .count) (omega (arith, passed .size, room few)) same
+              (passed .table);
           left = omega (arith, passed .left);
           comes =
               ap (λ (k : ℕ). checkLines k (passed .earlier ++ (j ∷ [])) (lines (drop (sixAt file at .second .to + 1) file))) (add-one n) ∙
-              sym (ap (λ (found : Found). onward n found (λ i. checkLines (suc n) (passed .earlier ++ (i ∷ [])) (lines (drop (sixAt file at .second .to + 1) file)))) good) ∙
+              sym (ap (λ (found : Found). onward n found
+              (λ i. checkLines (suc n) (passed .earlier ++ (i ∷ [])) (lines (drop (sixAt file at .second .to + 1) file)))) good) ∙
               ap (checkLines n (passed .earlier)) (sym rest) ∙ passed .comes;
+          claimed = claim-next file claim at (sixAt file at .second .to + 1) six rest (passed .claimed);
         },
       )
 
 -- ---- counting lines
 
 -- a line feed is a line more, any other byte none
-length-longer : (b : ℕ) (pieces : List (List ℕ)) → pieces ≡ headOf pieces ∷ tailOf pieces → length (allButLast (consFirst b pieces)) ≡ length (allButLast pieces)
+length-longer :
+    (b : ℕ) (pieces : List (List ℕ)) → pieces ≡ headOf pieces ∷ tailOf pieces →
+    length (allButLast (consFirst b pieces)) ≡ length (allButLast pieces)
 length-longer b [] e = let z : _≡_ {A = ℕ} 0 1 = ap length e in absurd (omega arith)
 length-longer b (piece ∷ []) e = refl
 length-longer b (piece ∷ next ∷ pieces) e = refl
 
-length-feed : (pieces : List (List ℕ)) → pieces ≡ headOf pieces ∷ tailOf pieces → length (allButLast ([] ∷ pieces)) ≡ suc (length (allButLast pieces))
+length-feed :
+    (pieces : List (List ℕ)) → pieces ≡ headOf pieces ∷ tailOf pieces → length (allButLast ([] ∷ pieces)) ≡ suc (length (allButLast pieces))
 length-feed [] e = let z : _≡_ {A = ℕ} 0 1 = ap length e in absurd (omega arith)
 length-feed (piece ∷ pieces) e = refl
 
-at-byte : (s : List ℕ) (at : ℕ) → at < length s → lines (drop at s) ≡ allButLast (cutOr (eqb (getD s at 0) 10) (getD s at 0) (split 10 (drop (at + 1) s)))
+at-byte :
+    (s : List ℕ) (at : ℕ) → at < length s →
+    lines (drop at s) ≡ allButLast (cutOr (eqb (getD s at 0) lineFeed) (getD s at 0) (split lineFeed (drop (at + 1) s)))
 at-byte s at h =
     ap lines (drop-cons s at 0 h) ∙
-    ap (λ (k : ℕ). allButLast (cutOr (eqb (getD s at 0) 10) (getD s at 0) (split 10 (drop k s)))) (sym (add-one at))
+    ap (λ (k : ℕ). allButLast (cutOr (eqb (getD s at 0) lineFeed) (getD s at 0) (split lineFeed (drop k s)))) (sym (add-one at))
 
-pub at-feed : (s : List ℕ) (at : ℕ) → at < length s → getD s at 0 ≡ 10 → length (lines (drop at s)) ≡ suc (length (lines (drop (at + 1) s)))
+pub at-feed :
+    (s : List ℕ) (at : ℕ) → at < length s → getD s at 0 ≡ lineFeed → length (lines (drop at s)) ≡ suc (length (lines (drop (at + 1) s)))
 at-feed s at h e =
-    ap length (at-byte s at h ∙ ap (λ (t : Bool). allButLast (cutOr t (getD s at 0) (split 10 (drop (at + 1) s)))) (eq-eqb (getD s at 0) 10 e)) ∙
-    length-feed (split 10 (drop (at + 1) s)) (some-piece 10 (drop (at + 1) s))
+    ap length
+    (at-byte s at h
+    ∙ ap (λ (t : Bool). allButLast (cutOr t (getD s at 0) (split lineFeed (drop (at + 1) s)))) (eq-eqb (getD s at 0) lineFeed e)) ∙
+    length-feed (split lineFeed (drop (at + 1) s)) (some-piece lineFeed (drop (at + 1) s))
 
-pub at-other : (s : List ℕ) (at : ℕ) → at < length s → (getD s at 0 ≡ 10 → ⊥) → length (lines (drop at s)) ≡ length (lines (drop (at + 1) s))
+pub at-other :
+    (s : List ℕ) (at : ℕ) → at < length s → (getD s at 0 ≡ lineFeed → ⊥) → length (lines (drop at s)) ≡ length (lines (drop (at + 1) s))
 at-other s at h n =
-    ap length (at-byte s at h ∙ ap (λ (t : Bool). allButLast (cutOr t (getD s at 0) (split 10 (drop (at + 1) s)))) (ne-eqb (getD s at 0) 10 n)) ∙
-    length-longer (getD s at 0) (split 10 (drop (at + 1) s)) (some-piece 10 (drop (at + 1) s))
+    ap length
+    (at-byte s at h
+    ∙ ap (λ (t : Bool). allButLast (cutOr t (getD s at 0) (split lineFeed (drop (at + 1) s)))) (ne-eqb (getD s at 0) lineFeed n)) ∙
+    length-longer (getD s at 0) (split lineFeed (drop (at + 1) s)) (some-piece lineFeed (drop (at + 1) s))
 
 pub no-more : (s : List ℕ) (at : ℕ) → length s ≤ at → length (lines (drop at s)) ≡ 0
 no-more s at h = ap (λ (l : List ℕ). length (lines l)) (drop-of-length-le s h)
@@ -219,30 +290,39 @@ refusals long empty unended many other = refuseIf long 10 (refuseIf empty 11 (re
 
 module _ (file : List ℕ) where
   whole :
-      (long empty feed many : Bool) → ltb 65536 (length file) ≡ long → eqb (length file) 0 ≡ empty → eqb (lastByte file) 10 ≡ feed →
-      ltb 1024 (length (lines file)) ≡ many → refusals long empty (not feed) many (checkLines 0 [] (lines file)) ≡ checkingOf file
+      (long empty is-feed many : Bool) → ltb fileLimit (length file) ≡ long → eqb (length file) 0 ≡ empty →
+      eqb (lastByte file) lineFeed ≡ is-feed →
+      ltb lineLimit (length (lines file)) ≡ many → refusals long empty (not is-feed) many (checkLines 0 [] (lines file)) ≡ checkingOf file
   unfolding checkingOf
-  whole long empty feed many p q r t =
-      sym (ap₂ (λ (a b : Bool). refusals a b (not (eqb (lastByte file) 10)) (ltb 1024 (length (lines file))) (checkLines 0 [] (lines file))) p q ∙
+  whole long empty is-feed many p q r t =
+      sym (ap₂ (λ (a b : Bool). refusals a b (not (eqb (lastByte file) lineFeed)) (ltb lineLimit (length (lines file)))
+      (checkLines 0 [] (lines file))) p q ∙
       ap₂ (λ (a b : Bool). refusals long empty (not a) b (checkLines 0 [] (lines file))) r t)
 
-  pub too-long : 65536 < length file → Reply.refused 10 0 ≡ checkingOf file
-  too-long h = whole true (eqb (length file) 0) (eqb (lastByte file) 10) (ltb 1024 (length (lines file))) (lt-ltb 65536 (length file) h) refl refl refl
+  pub too-long : fileLimit < length file → Reply.refused 10 0 ≡ checkingOf file
+  too-long h =
+      whole true (eqb (length file) 0) (eqb (lastByte file) lineFeed) (ltb lineLimit (length (lines file)))
+      (lt-ltb fileLimit (length file) h) refl refl refl
 
-  pub is-empty : length file ≤ 65536 → length file ≡ 0 → Reply.refused 11 0 ≡ checkingOf file
-  is-empty h e = whole false true (eqb (lastByte file) 10) (ltb 1024 (length (lines file))) (le-ltb 65536 (length file) h) (eq-eqb (length file) 0 e) refl refl
+  pub is-empty : length file ≤ fileLimit → length file ≡ 0 → Reply.refused 11 0 ≡ checkingOf file
+  is-empty h e =
+      whole false true (eqb (lastByte file) lineFeed) (ltb lineLimit (length (lines file))) (le-ltb fileLimit (length file) h)
+      (eq-eqb (length file) 0 e) refl refl
 
-  module _ (short : length file ≤ 65536) (some-byte : length file ≡ 0 → ⊥) where
-    pub no-line-end : (lastByte file ≡ 10 → ⊥) → Reply.refused 12 0 ≡ checkingOf file
+  module _ (short : length file ≤ fileLimit) (some-byte : length file ≡ 0 → ⊥) where
+    pub no-line-end : (lastByte file ≡ lineFeed → ⊥) → Reply.refused 12 0 ≡ checkingOf file
     no-line-end n =
-        whole false false false (ltb 1024 (length (lines file))) (le-ltb 65536 (length file) short) (ne-eqb (length file) 0 some-byte) (ne-eqb (lastByte file) 10 n) refl
+        whole false false false (ltb lineLimit (length (lines file))) (le-ltb fileLimit (length file) short)
+        (ne-eqb (length file) 0 some-byte) (ne-eqb (lastByte file) lineFeed n) refl
 
-    pub too-many : lastByte file ≡ 10 → 1024 < length (lines file) → Reply.refused 13 0 ≡ checkingOf file
+    pub too-many : lastByte file ≡ lineFeed → lineLimit < length (lines file) → Reply.refused 13 0 ≡ checkingOf file
     too-many e h =
-        whole false false true true (le-ltb 65536 (length file) short) (ne-eqb (length file) 0 some-byte) (eq-eqb (lastByte file) 10 e)
-        (lt-ltb 1024 (length (lines file)) h)
+        whole false false true true (le-ltb fileLimit (length file) short) (ne-eqb (length file) 0 some-byte)
+        (eq-eqb (lastByte file) lineFeed e)
+        (lt-ltb lineLimit (length (lines file)) h)
 
-    pub line-by-line : lastByte file ≡ 10 → length (lines file) ≤ 1024 → checkLines 0 [] (lines file) ≡ checkingOf file
+    pub line-by-line : lastByte file ≡ lineFeed → length (lines file) ≤ lineLimit → checkLines 0 [] (lines file) ≡ checkingOf file
     line-by-line e h =
-        whole false false true false (le-ltb 65536 (length file) short) (ne-eqb (length file) 0 some-byte) (eq-eqb (lastByte file) 10 e)
-        (le-ltb 1024 (length (lines file)) h)
+        whole false false true false (le-ltb fileLimit (length file) short) (ne-eqb (length file) 0 some-byte)
+        (eq-eqb (lastByte file) lineFeed e)
+        (le-ltb lineLimit (length (lines file)) h)

@@ -1,8 +1,9 @@
--- Document 01's numbers and values for each case of checking's answer.
+-- The number and the value of each case of checking's answer (REQUIREMENTS, Checking).
 use Prim.Native.Nat.{ℕ}
 use Rattle.reading.specs.Reply.{Reply}
 use Rattle.checking.specs.declared.Checking.{Checking}
-use Rattle.checking.specs.declared.Checking.the-variants.{FileTooLong, FileEmpty, NoLineEnd, TooManyLines, NotSixFields, Malformed, UnknownRule, BadPremise, NoInstance, Accepted}
+use Rattle.checking.specs.declared.Checking.the-variants.{FileTooLong, FileEmpty, NoLineEnd, TooManyLines, NotSixFields, Malformed}
+use Rattle.checking.specs.declared.Checking.the-variants.{UnknownRule, BadPremise, NoInstance, Accepted}
 
 abbrev pub answerOf : Checking → Reply ℕ
 answerOf FileTooLong = Reply.refused 10 0

@@ -1,10 +1,3 @@
-pub mod Line
-pub mod Instance
-pub mod Checking
-pub mod Accepted
 pub mod Answer
-pub mod Texts
-pub mod Fields
-pub mod Cited
-pub mod TextInstance
 pub mod TextChecking
+pub mod Claim

@@ -1,5 +1,5 @@
 -- What one line comes to, by its texts: the refusal with its number and the line's own number, or that number where the line is good.
--- `proofs/TextChecking.antt` shows that this is what is found of the line by `Checking.antt`.
+-- `proofs/TextChecking.antt` shows that this is what is found of the line by `derivation_files/specs/Checking.antt`.
 use Prim.Native.Nat.{ℕ, _+_}
 use mathlib.Core.Bool.{Bool, true, false, _&&_}
 use mathlib.Core.List.{List}
@@ -8,36 +8,26 @@ use Rattle.reading.specs.Reply.{Reply}
 use Rattle.calculus.specs.Parse.{termOf}
 use Rattle.types.specs.Parse.{typeOf, contextOf}
 use Rattle.types.specs.Tests.{isSome}
-use Rattle.checking.specs.Line.{nameOf, premiseOf}
-use Rattle.checking.specs.Texts.{textAt}
-use Rattle.checking.specs.Fields.{judgedAt, hasSix, Texts, textsAt}
-use Rattle.checking.specs.Cited.{citedOf, citedFit, startOr}
-use Rattle.checking.specs.TextInstance.{ruleOf, instanceText, countOf}
-use Rattle.checking.specs.declared.fields.Judged.{Judged}
-use Rattle.checking.specs.declared.fields.SixFields.{SixFields}
-use Rattle.checking.specs.declared.premises.Cited.{Cited}
-use Rattle.checking.specs.declared.rules.Rule.{Rule}
-use Rattle.checking.specs.declared.rules.Rule.the-variants.{J, R, H, A, F, I, B, S, Unknown}
+use Rattle.derivation_files.specs.Line.{nameOf, premiseOf}
+use Rattle.fields.specs.Texts.{textAt}
+use Rattle.fields.specs.Fields.{judgedAt, hasSix, Texts, textsAt}
+use Rattle.premises.specs.Cited.{citedOf, citedFit, startOr}
+use Rattle.rules.specs.Rules.{ruleOf, isKnown, countOf}
+use Rattle.instances.specs.TextInstance.{instanceText}
+use Rattle.fields.specs.declared.Judged.{Judged}
+use Rattle.fields.specs.declared.SixFields.{SixFields}
+use Rattle.premises.specs.declared.Cited.{Cited}
+use Rattle.rules.specs.declared.Rule.{Rule}
 
 -- the context, the term and the type are well formed
 abbrev pub wellFormed : Texts → Bool
 wellFormed own = isSome (contextOf (own .context)) && isSome (termOf (own .term)) && isSome (typeOf (own .type))
 
-abbrev pub isKnown : Rule → Bool
-isKnown J = true
-isKnown R = true
-isKnown H = true
-isKnown A = true
-isKnown F = true
-isKnown I = true
-isKnown B = true
-isKnown S = true
-isKnown Unknown = false
-
 -- the line is an instance of the rule, with the lines that are named for premises; where none is named the end of the file serves
 abbrev pub instanceAt : (file : List ℕ) → Rule → Judged → (first second : Cited) → Bool
 instanceAt file rule own first second =
-    instanceText rule (textsAt own file) (textsAt (judgedAt file (startOr (length file) first)) file) (textsAt (judgedAt file (startOr (length file) second)) file)
+    instanceText rule (textsAt own file) (textsAt (judgedAt file (startOr (length file) first)) file)
+    (textsAt (judgedAt file (startOr (length file) second)) file)
 
 abbrev pub isAnswered : Reply ℕ → Bool
 isAnswered (Reply.refused number line) = false

@@ -1,20 +1,21 @@
-// Checking derivation files.
-mod fields;
+// Checking derivation files; what they are and what is answered stands in derivation_files.
 mod line;
-mod premises;
-mod rules;
-mod texts;
 
 ghost use mathlib.Core.Path.{_≡_};
 ghost use Prim.Native.Nat.{_≤_};
 ghost use mathlib.Core.List.{[]};
 ghost use lib.ListN.{length};
-ghost use Rattle.slices.specs.Split.{lines, lastByte};
-ghost use Rattle.checking.specs.Checking.{checkLines, checkingOf};
+ghost use Rattle.reading.specs.Reply.{numberIn, placeIn};
+ghost use Rattle.calculus.specs.Limits.{lineLimit};
+ghost use Rattle.slices.specs.Split.{lineFeed, lines, lastByte};
+ghost use Rattle.derivation_files.specs.Checking.{checkLines, checkingOf};
+ghost use Rattle.fields.specs.Fields.{textsAt};
 ghost use Rattle.checking.specs.Answer.{answerOf};
+ghost use Rattle.checking.specs.Claim.{claimTexts, nowhere, refusalOf};
+use fields::Judged;
 use fields::six_at;
+use fields::texts::Span;
 use line::check_line;
-use line::is_accepted;
 
 // What checking answers; specs/Answer.antt gives the number and the value of each case.
 pub enum Checking {
@@ -22,7 +23,7 @@ pub enum Checking {
     FileTooLong,
     // The file is empty.
     FileEmpty,
-    // The last byte is not 10.
+    // The last byte is no line feed.
     NoLineEnd,
     // The file has over 1,024 lines.
     TooManyLines,
@@ -40,23 +41,94 @@ pub enum Checking {
     Accepted(usize),
 }
 
+// The number of a refusal, 0 of an accepted file.
+pub fn number(answer: Checking) -> u64
+    ensures { λ r. ⌜ r ≡ numberIn (answerOf answer) ⌝ }
+{
+    match answer {
+        Checking::FileTooLong => 10,
+        Checking::FileEmpty => 11,
+        Checking::NoLineEnd => 12,
+        Checking::TooManyLines => 13,
+        Checking::NotSixFields(_) => 14,
+        Checking::Malformed(_) => 15,
+        Checking::UnknownRule(_) => 16,
+        Checking::BadPremise(_) => 17,
+        Checking::NoInstance(_) => 18,
+        Checking::Accepted(_) => 0,
+    }
+}
+
+// The line of a refusal, 0 of an accepted file.
+pub fn place(answer: Checking) -> usize
+    ensures { λ r. ⌜ r ≡ placeIn (answerOf answer) ⌝ }
+{
+    match answer {
+        Checking::FileTooLong => 0,
+        Checking::FileEmpty => 0,
+        Checking::NoLineEnd => 0,
+        Checking::TooManyLines => 0,
+        Checking::NotSixFields(line) => line,
+        Checking::Malformed(line) => line,
+        Checking::UnknownRule(line) => line,
+        Checking::BadPremise(line) => line,
+        Checking::NoInstance(line) => line,
+        Checking::Accepted(_) => 0,
+    }
+}
+
+// What checking answers of a file, and where the context, the term and the type of its last line stand; empty places beside a refusal.
+pub struct Checked {
+    pub answer: Checking,
+    pub claim: Judged,
+}
+
 // Checks a derivation file of any bytes.
 pub fn check_derivation(file: &[u8]) -> Checking
     ensures { λ r. ⌜ answerOf r ≡ checkingOf (now (file .entry)) ⌝ }
 {
-    if 65536 < file.len() {
-        return Checking::FileTooLong;
+    check_claim(file).answer
+}
+
+// Checks a derivation file of any bytes, and finds what its last line claims.
+pub fn check_claim(file: &[u8]) -> Checked
+    ensures { λ r. ⌜ answerOf (r .answer) ≡ checkingOf (now (file .entry)) ⌝ }
+    ensures claim { λ r. ⌜ textsAt (r .claim) (now (file .entry)) ≡ claimTexts (checkingOf (now (file .entry))) (now (file .entry)) ⌝ }
+{
+    if calculus::FILE_LIMIT < file.len() {
+        return refusal(Checking::FileTooLong);
     }
     if file.len() == 0 {
-        return Checking::FileEmpty;
+        return refusal(Checking::FileEmpty);
     }
-    if slices::byte_at(file, file.len() - 1) != 10 {
-        return Checking::NoLineEnd;
+    if slices::byte_at(file, file.len() - 1) != slices::LINE_FEED {
+        return refusal(Checking::NoLineEnd);
     }
-    if 1024 < line_count(file) {
-        return Checking::TooManyLines;
+    if calculus::LINE_LIMIT < line_count(file) {
+        return refusal(Checking::TooManyLines);
     }
     check_lines(file)
+}
+
+// A refusal has no claim.
+fn refusal(answer: Checking) -> Checked
+    ensures { λ r. ⌜ r ≡ refusalOf answer ⌝ }
+{
+    Checked {
+        answer,
+        claim: no_claim(),
+    }
+}
+
+fn no_claim() -> Judged
+    ensures { λ r. ⌜ r ≡ nowhere ⌝ }
+{
+    let nothing = Span { from: 0, to: 0 };
+    Judged {
+        context: nothing,
+        term: nothing,
+        ty: nothing,
+    }
 }
 
 // The number of lines.
@@ -66,7 +138,7 @@ fn line_count(file: &[u8]) -> usize
     let mut count: usize = 0;
     let mut at = 0;
     while at < file.len() {
-        if file[at] == 10 {
+        if file[at] == slices::LINE_FEED {
             count += 1;
         }
         at += 1;
@@ -74,23 +146,31 @@ fn line_count(file: &[u8]) -> usize
     count
 }
 
-// Line by line: the first bad line, or accepted with their number. Of the lines passed it keeps where they begin.
-fn check_lines(file: &[u8]) -> Checking
-    requires { ⌜ (lastByte (now file) ≡ 10) × (length (lines (now file)) ≤ 1024) ⌝ }
-    ensures { λ r. ⌜ answerOf r ≡ checkLines 0 [] (lines (now (file .entry))) ⌝ }
+// Line by line: the first bad line, or accepted with their number.
+// Of the lines passed it keeps where they begin, and the claim of the last.
+fn check_lines(file: &[u8]) -> Checked
+    requires { ⌜ (lastByte (now file) ≡ lineFeed) × (length (lines (now file)) ≤ lineLimit) ⌝ }
+    ensures { λ r. ⌜ answerOf (r .answer) ≡ checkLines 0 [] (lines (now (file .entry))) ⌝ }
+    ensures claim { λ r. ⌜ textsAt (r .claim) (now (file .entry))
+        ≡ claimTexts (checkLines 0 [] (lines (now (file .entry)))) (now (file .entry)) ⌝ }
 {
-    let mut starts = [0usize; 1024];
+    let mut starts = [0usize; calculus::LINE_LIMIT];
     let mut n: usize = 0;
     let mut at: usize = 0;
+    let mut claim = no_claim();
     while at < file.len() {
         let line = six_at(file, at);
         let found = check_line(file, &starts, n, line);
-        if !is_accepted(found) {
-            return found;
+        if number(found) != 0 {
+            return refusal(found);
         }
         starts[n] = at;
         n += 1;
         at = line.second.to + 1;
+        claim = line.own;
     }
-    Checking::Accepted(n)
+    Checked {
+        answer: Checking::Accepted(n),
+        claim,
+    }
 }

@@ -1,32 +1,31 @@
 // One line of a derivation file.
 ghost use mathlib.Core.Path.{_≡_};
 ghost use Prim.Native.Nat.{_<_};
+ghost use Rattle.calculus.specs.Limits.{lineLimit};
 ghost use Rattle.calculus.specs.Parse.{termOf};
 ghost use Rattle.types.specs.Tests.{isSome};
 ghost use Rattle.checking.specs.Answer.{answerOf};
-ghost use Rattle.checking.specs.Fields.{textsAt};
-ghost use Rattle.checking.specs.TextChecking.{wellFormed, instanceAt, isAnswered, lineReply};
+ghost use Rattle.fields.specs.Fields.{textsAt};
+ghost use Rattle.checking.specs.TextChecking.{wellFormed, instanceAt, lineReply};
 use crate::Checking;
-use crate::fields::Judged;
-use crate::fields::SixFields;
-use crate::fields::has_six;
-use crate::fields::judged_at;
-use crate::premises::Cited;
-use crate::premises::cite;
-use crate::premises::premises_fit;
-use crate::premises::start_or;
-use crate::rules::Rule;
-use crate::rules::asks;
-use crate::rules::builds;
-use crate::rules::is_known;
-use crate::rules::premise_count;
-use crate::rules::rule_of;
-use crate::texts::bytes_of;
-use reading::Reading;
+use fields::Judged;
+use fields::SixFields;
+use fields::has_six;
+use fields::judged_at;
+use fields::texts::bytes_of;
+use instances::is_instance;
+use premises::Cited;
+use premises::cite;
+use premises::premises_fit;
+use premises::start_or;
+use rules::Rule;
+use rules::is_known;
+use rules::premise_count;
+use rules::rule_of;
 
 // A line of those fields, where `n` lines went before, which begin at `starts`: its refusal, or accepted with its number.
 pub(crate) fn check_line(file: &[u8], starts: &[usize], n: usize, line: SixFields) -> Checking
-    requires { ⌜ n < 1024 ⌝ }
+    requires { ⌜ n < lineLimit ⌝ }
     ensures { λ r. ⌜ answerOf r ≡ lineReply (now (file .entry)) (now (starts .entry)) n line ⌝ }
 {
     if !has_six(file, line) {
@@ -45,28 +44,10 @@ pub(crate) fn check_line(file: &[u8], starts: &[usize], n: usize, line: SixField
     if !premises_fit(premise_count(rule), first, second) {
         return Checking::BadPremise(n + 1);
     }
-    if !is_instance(file, rule, own, first, second) {
+    if !follows(file, rule, own, first, second) {
         return Checking::NoInstance(n + 1);
     }
     Checking::Accepted(n + 1)
-}
-
-// Whether no line was refused.
-pub(crate) fn is_accepted(found: Checking) -> bool
-    ensures { λ r. ⌜ r ≡ isAnswered (answerOf found) ⌝ }
-{
-    match found {
-        Checking::FileTooLong => false,
-        Checking::FileEmpty => false,
-        Checking::NoLineEnd => false,
-        Checking::TooManyLines => false,
-        Checking::NotSixFields(_) => false,
-        Checking::Malformed(_) => false,
-        Checking::UnknownRule(_) => false,
-        Checking::BadPremise(_) => false,
-        Checking::NoInstance(_) => false,
-        Checking::Accepted(_) => true,
-    }
 }
 
 // Whether the context, the term and the type are well formed.
@@ -82,19 +63,14 @@ fn well_formed(file: &[u8], own: Judged) -> bool
 fn is_term(s: &[u8]) -> bool
     ensures { λ r. ⌜ r ≡ isSome (termOf (now (s .entry))) ⌝ }
 {
-    match reading::read(s) {
-        Reading::Whole(_) => true,
-        Reading::NoLetter(_) => false,
-        Reading::NotWhole(_) => false,
-        Reading::Beyond(_) => false,
-    }
+    reading::number(reading::read(s)) == 0
 }
 
 // Whether the line is an instance of the rule, with the lines that are named for premises.
-fn is_instance(file: &[u8], rule: Rule, own: Judged, first: Cited, second: Cited) -> bool
+fn follows(file: &[u8], rule: Rule, own: Judged, first: Cited, second: Cited) -> bool
     ensures { λ r. ⌜ r ≡ instanceAt (now (file .entry)) rule own first second ⌝ }
 {
     let i = judged_at(file, start_or(first, file.len()));
     let k = judged_at(file, start_or(second, file.len()));
-    asks(file, rule, own, i, k) && builds(file, rule, own.term, i.term, k.term)
+    is_instance(file, rule, own, i, k)
 }

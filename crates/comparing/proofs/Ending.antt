@@ -12,7 +12,7 @@ use Rattle.slices.proofs.Part.{part-front}
 use Rattle.calculus.specs.Term.{Term, text, size}
 use Rattle.calculus.specs.Run.{Outcome, Run, run, outcome, reached}
 use Rattle.calculus.proofs.PrefixCode.{length-text}
-use Rattle.reading.specs.Reply.{Reply}
+use Rattle.reading.specs.Reply.{Reply, passedOn}
 use Rattle.stepping.specs.Areas.{holding, cleared}
 use Rattle.finishing.specs.Finishing.{Ran, After as Finish, admitted, admission, recordOf, finishAdmitted, finishingOf}
 use Rattle.finishing.specs.Answer.{replyOf}
@@ -20,7 +20,6 @@ use Rattle.finishing.specs.declared.Admission.{Admission}
 use Rattle.finishing.proofs.Admission.{the-type}
 use Rattle.finishing.proofs.Ending.{said-refused, said-admitted}
 use Rattle.comparing.specs.Comparing.{Compared, After, verdict, firstAdmitted, comparingOf}
-use Rattle.comparing.specs.Answer.{refusalOf}
 use Rattle.comparing.specs.Turning.{SameIfTurned}
 use Rattle.comparing.proofs.Turning.{same-if-turned}
 
@@ -35,7 +34,8 @@ record Finishes (t : Term) (r : Run) (o : Outcome) (size′ : ℕ) (area work ar
 
 finishes :
     (area : List ℕ) (len : ℕ) (work : List ℕ) (fuel : ℕ) (t : Term) → admitted area len work fuel ≡ Reply.answered t →
-    (reply : Reply Unit) (o : Outcome) (made size′ : ℕ) (area′ work′ : List ℕ) → Finish.after reply (Ran.ran o made size′) area′ work′ ≡ finishingOf area len work fuel →
+    (reply : Reply Unit) (o : Outcome) (made size′ : ℕ) (area′ work′ : List ℕ) →
+    Finish.after reply (Ran.ran o made size′) area′ work′ ≡ finishingOf area len work fuel →
     Finishes t (run fuel (length area) t) o size′ area work area′ work′
 unfolding finishingOf
 finishes area len work fuel t e reply o made size′ area′ work′ is =
@@ -57,44 +57,50 @@ finishes area len work fuel t e reply o made size′ area′ work′ is =
 
 -- of the work area its length alone is tested
 admitted-work :
-    (area : List ℕ) (len : ℕ) (work work′ : List ℕ) (fuel : ℕ) → length work′ ≡ length work → admitted area len work′ fuel ≡ admitted area len work fuel
+    (area : List ℕ) (len : ℕ) (work work′ : List ℕ) (fuel : ℕ) → length work′ ≡ length work →
+    admitted area len work′ fuel ≡ admitted area len work fuel
 admitted-work area len work work′ fuel e = rw e
 
 -- ---- the ways out of `compare`
 
 -- both promises, of an answer and the areas at exit
-abbrev Promised : (first : List ℕ) (len₁ : ℕ) (second : List ℕ) (len₂ : ℕ) (work : List ℕ) (fuel : ℕ) → Reply Compared → (first′ second′ work′ : List ℕ) → Type 0
+abbrev Promised :
+    (first : List ℕ) (len₁ : ℕ) (second : List ℕ) (len₂ : ℕ) (work : List ℕ) (fuel : ℕ) → Reply Compared → (first′ second′ work′ : List ℕ) →
+    Type 0
 Promised first len₁ second len₂ work fuel answer first′ second′ work′ =
     (After.after answer first′ second′ work′ ≡ comparingOf first len₁ second len₂ work fuel) × SameIfTurned answer first len₁ second len₂ work fuel
 
 module _ (first : List ℕ) (len₁ : ℕ) (second : List ℕ) (len₂ : ℕ) (work : List ℕ) (fuel : ℕ) where
   -- the first is the second's reason
   promised :
-      (answer : Reply Compared) (first′ second′ work′ : List ℕ) → After.after answer first′ second′ work′ ≡ comparingOf first len₁ second len₂ work fuel →
+      (answer : Reply Compared) (first′ second′ work′ : List ℕ) →
+      After.after answer first′ second′ work′ ≡ comparingOf first len₁ second len₂ work fuel →
       Promised first len₁ second len₂ work fuel answer first′ second′ work′
   promised answer first′ second′ work′ e = (e, same-if-turned answer first′ second′ work′ first len₁ second len₂ work fuel e)
 
   module _ (a : Admission) (said₁ : replyOf a ≡ admission (admitted first len₁ work fuel)) where
     -- what is refused of the first
     pub after-first-refused :
-        OneOf (0 ∷ 1 ∷ 2 ∷ 3 ∷ 4 ∷ []) (tagOf the-type a) → Promised first len₁ second len₂ work fuel (refusalOf (replyOf a)) first second work
+        OneOf (0 ∷ 1 ∷ 2 ∷ 3 ∷ 4 ∷ []) (tagOf the-type a) →
+        Promised first len₁ second len₂ work fuel (passedOn (replyOf a)) first second work
     unfolding comparingOf
     after-first-refused k =
         let (n, p, e, f) = said-refused first len₁ work fuel a said₁ k in
-        promised (refusalOf (replyOf a)) first second work
-        (ap (λ (r : Reply Unit). After.after (refusalOf r) first second work) e
+        promised (passedOn (replyOf a)) first second work
+        (ap (λ (r : Reply Unit). After.after (passedOn r) first second work) e
         ∙ sym (ap (λ (x : Reply Term). firstAdmitted x (admitted second len₂ work fuel) first second work fuel) f))
 
     module _ (k₁ : tagOf the-type a ≡ 5) (b : Admission) (said₂ : replyOf b ≡ admission (admitted second len₂ work fuel)) where
       -- what is refused of the second
       pub after-second-refused :
-          OneOf (0 ∷ 1 ∷ 2 ∷ 3 ∷ 4 ∷ []) (tagOf the-type b) → Promised first len₁ second len₂ work fuel (refusalOf (replyOf b)) first second work
+          OneOf (0 ∷ 1 ∷ 2 ∷ 3 ∷ 4 ∷ []) (tagOf the-type b) →
+          Promised first len₁ second len₂ work fuel (passedOn (replyOf b)) first second work
       unfolding comparingOf
       after-second-refused k =
           let (t, d) = said-admitted first len₁ work fuel a said₁ k₁ in
           let (n, p, e, f) = said-refused second len₂ work fuel b said₂ k in
-          promised (refusalOf (replyOf b)) first second work
-          (ap (λ (r : Reply Unit). After.after (refusalOf r) first second work) e
+          promised (passedOn (replyOf b)) first second work
+          (ap (λ (r : Reply Unit). After.after (passedOn r) first second work) e
           ∙ sym (ap₂ (λ (x y : Reply Term). firstAdmitted x y first second work fuel) d f))
 
       -- both runs

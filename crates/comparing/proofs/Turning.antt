@@ -39,7 +39,8 @@ by-same x y = (λ e. same-equal x y (go (same x y) e), λ e. ap (λ (b : Bool). 
 -- whatever comparing answers, it is same exactly on terms that can be turned into each other
 pub same-if-turned :
     (answer : Reply Compared) (first′ second′ work′ : List ℕ) (first : List ℕ) (len₁ : ℕ) (second : List ℕ) (len₂ : ℕ) (work : List ℕ) (fuel : ℕ) →
-    After.after answer first′ second′ work′ ≡ comparingOf first len₁ second len₂ work fuel → SameIfTurned answer first len₁ second len₂ work fuel
+    After.after answer first′ second′ work′ ≡ comparingOf first len₁ second len₂ work fuel →
+    SameIfTurned answer first len₁ second len₂ work fuel
 unfolding SameIfTurned
 same-if-turned answer first′ second′ work′ first len₁ second len₂ work fuel is t u e f done₁ done₂ =
     let r = run fuel (length first) t in

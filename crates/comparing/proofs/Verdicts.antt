@@ -31,16 +31,21 @@ first-undecided NoRoom p x y k = refl
 
 module _ (o p : Declared) (x y : List ℕ) (done : tagOf the-type o ≡ 0) where
   -- the second was not finished
-  pub second-undecided : OneOf (1 ∷ 2 ∷ []) (tagOf the-type p) → Reply.answered Compared.undecided ≡ Reply.answered (verdict (outcomeOf o) (outcomeOf p) x y)
+  pub second-undecided :
+      OneOf (1 ∷ 2 ∷ []) (tagOf the-type p) → Reply.answered Compared.undecided ≡ Reply.answered (verdict (outcomeOf o) (outcomeOf p) x y)
   second-undecided k = go p k ∙ sym (ap (λ (q : Outcome). Reply.answered (verdict q (outcomeOf p) x y)) (finished o done))
     where
-      go : (q : Declared) → OneOf (1 ∷ 2 ∷ []) (tagOf the-type q) → Reply.answered Compared.undecided ≡ Reply.answered (verdict Outcome.finished (outcomeOf q) x y)
+      go :
+          (q : Declared) → OneOf (1 ∷ 2 ∷ []) (tagOf the-type q) →
+          Reply.answered Compared.undecided ≡ Reply.answered (verdict Outcome.finished (outcomeOf q) x y)
       go Finished k = absurd (miss (1 ∷ 2 ∷ []) 0 tt k)
       go Spent k = refl
       go NoRoom k = refl
 
   -- both were finished
-  pub decided : (b : Bool) → b ≡ same x y → tagOf the-type p ≡ 0 → Reply.answered (bySame b) ≡ Reply.answered (verdict (outcomeOf o) (outcomeOf p) x y)
+  pub decided :
+      (b : Bool) → b ≡ same x y → tagOf the-type p ≡ 0 →
+      Reply.answered (bySame b) ≡ Reply.answered (verdict (outcomeOf o) (outcomeOf p) x y)
   decided b e k =
       ap (λ (c : Bool). Reply.answered (bySame c)) e
       ∙ sym (ap₂ (λ (q r : Outcome). Reply.answered (verdict q r x y)) (finished o done) (finished p k))

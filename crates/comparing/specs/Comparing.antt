@@ -1,6 +1,4 @@
--- Comparing. Document 01: "Comparing takes two terms in two areas, a work area and one fuel. The refusals of finishing for the first, then
--- for the second. Both are finished with that fuel: undecided if either was not finished, else same or different as the result bytes
--- are."
+-- What comparing answers and leaves in the areas, for any call (REQUIREMENTS, Comparing).
 use Prim.Native.Nat.{ℕ}
 use mathlib.Core.Bool.{Bool, true, false}
 use mathlib.Core.List.{List}

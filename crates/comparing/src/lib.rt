@@ -4,7 +4,7 @@ use finishing::Outcome;
 use finishing::Run;
 ghost use mathlib.Core.Path.{_≡_};
 ghost use Rattle.slices.specs.Part.{part};
-ghost use Rattle.reading.specs.Reply.{Reply};
+ghost use Rattle.reading.specs.Reply.{Reply, numberIn, placeIn};
 ghost use Rattle.finishing.specs.Answer.{outcomeOf};
 ghost use Rattle.comparing.specs.Comparing.{After, verdict, comparingOf};
 ghost use Rattle.comparing.specs.Answer.{answerOf};
@@ -20,6 +20,30 @@ pub enum Comparing {
     Different,
     // Either was not finished.
     Undecided,
+}
+
+// The number of a refusal, 0 of a verdict.
+pub fn number(answer: Comparing) -> u64
+    ensures { λ r. ⌜ r ≡ numberIn (answerOf answer) ⌝ }
+{
+    match answer {
+        Comparing::Refused(admission) => finishing::number(admission),
+        Comparing::Same => 0,
+        Comparing::Different => 0,
+        Comparing::Undecided => 0,
+    }
+}
+
+// The place of a refusal, 0 of a verdict.
+pub fn place(answer: Comparing) -> usize
+    ensures { λ r. ⌜ r ≡ placeIn (answerOf answer) ⌝ }
+{
+    match answer {
+        Comparing::Refused(admission) => finishing::place(admission),
+        Comparing::Same => 0,
+        Comparing::Different => 0,
+        Comparing::Undecided => 0,
+    }
 }
 
 // The verdict on two runs, by their records and the areas that hold the terms reached.

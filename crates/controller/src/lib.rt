@@ -1,104 +1,28 @@
-// The engine for the controller's firmware: each answer as one number.
-use checking::Checking;
-use finishing::Admission;
-use finishing::Outcome;
-use finishing::Run;
-use reading::Reading;
-use stepping::Stepping;
+// The engine for the controller's firmware: one exported function for each operation, each reply as one number.
 ghost use mathlib.Core.Path.{_≡_};
-ghost use Rattle.reading.specs.Answer.{answerOf as readingAnswer};
+ghost use Rattle.reading.specs.Reading.{readingOf};
 ghost use Rattle.stepping.specs.Stepping.{steppingOf};
-ghost use Rattle.stepping.specs.Answer.{answerOf as steppingAnswer};
 ghost use Rattle.finishing.specs.Finishing.{finishingOf};
-ghost use Rattle.finishing.specs.Answer.{replyOf, outcomeOf, ranOf};
-ghost use Rattle.checking.specs.Checking.{checkingOf};
-ghost use Rattle.checking.specs.Answer.{answerOf as checkingAnswer};
-ghost use Rattle.controller.specs.Encoding.{fields, packed, refusalFields, stepFields, outcomeCode, finishFields, checkFields, encode, Coded, codedStep, codedFinish};
+ghost use Rattle.comparing.specs.Comparing.{comparingOf};
+ghost use Rattle.derivation_files.specs.Checking.{checkingOf};
+ghost use Rattle.matching.specs.Matching.{matchingOf};
+ghost use Rattle.codes.specs.Encoding.{readNumber, checkNumber, matchNumber, codedStep, codedFinish, codedCompare};
 
-// Code, value and size in one number, each cut to its bits.
-fn pack(code: u64, value: usize, size: usize) -> u64
-    ensures { λ r. ⌜ r ≡ packed (fields code value size) ⌝ }
+// Whether bytes, any number of them, are the text of one term.
+#[no_mangle]
+pub extern "C" fn controller_read(bytes: &[u8]) -> u64
+    ensures { λ r. ⌜ r ≡ readNumber (readingOf (now (bytes .entry))) ⌝ }
 {
-    code % 256 + (value as u64) % 16777216 * 256 + (size as u64) % 4294967296 * 4294967296
-}
-
-// The number of a reading's refusal.
-fn reading_number(reading: Reading) -> u64
-    ensures { λ r. ⌜ r ≡ packed (refusalFields (readingAnswer reading)) ⌝ }
-{
-    match reading {
-        Reading::Whole(size) => pack(0, size, 0),
-        Reading::NoLetter(place) => pack(5, place, 0),
-        Reading::NotWhole(place) => pack(6, place, 0),
-        Reading::Beyond(place) => pack(7, place, 0),
-    }
-}
-
-// The number of stepping's answer.
-fn step_number(answer: Stepping) -> u64
-    ensures { λ r. ⌜ r ≡ packed (stepFields (steppingAnswer answer)) ⌝ }
-{
-    match answer {
-        Stepping::AreaTooLong => pack(1, 0, 0),
-        Stepping::WorkTooShort => pack(2, 0, 0),
-        Stepping::LengthTooLong => pack(3, 0, 0),
-        Stepping::Unread(reading) => reading_number(reading),
-        Stepping::Normal(size) => pack(100, 0, size),
-        Stepping::NoRoom(size) => pack(101, 0, size),
-        Stepping::Done(rule, size) => pack(102, rule as usize, size),
-    }
-}
-
-// The code of a run's outcome.
-fn outcome_code(outcome: Outcome) -> u64
-    ensures { λ r. ⌜ r ≡ outcomeCode (outcomeOf outcome) ⌝ }
-{
-    match outcome {
-        Outcome::Finished => 110,
-        Outcome::Spent => 111,
-        Outcome::NoRoom => 112,
-    }
-}
-
-// The number of finishing's answer.
-fn finish_number(admission: Admission, run: Run) -> u64
-    ensures { λ r. ⌜ r ≡ packed (finishFields (replyOf admission) (ranOf run)) ⌝ }
-{
-    let outcome = run.outcome;
-    match admission {
-        Admission::AreaTooLong => pack(1, 0, 0),
-        Admission::WorkTooShort => pack(2, 0, 0),
-        Admission::LengthTooLong => pack(3, 0, 0),
-        Admission::FuelTooHigh => pack(4, 0, 0),
-        Admission::Unread(reading) => reading_number(reading),
-        Admission::Admitted => pack(outcome_code(outcome), run.count as usize, run.size),
-    }
-}
-
-// The number of checking's answer.
-fn check_number(answer: Checking) -> u64
-    ensures { λ r. ⌜ r ≡ packed (checkFields (checkingAnswer answer)) ⌝ }
-{
-    match answer {
-        Checking::FileTooLong => pack(10, 0, 0),
-        Checking::FileEmpty => pack(11, 0, 0),
-        Checking::NoLineEnd => pack(12, 0, 0),
-        Checking::TooManyLines => pack(13, 0, 0),
-        Checking::NotSixFields(line) => pack(14, line, 0),
-        Checking::Malformed(line) => pack(15, line, 0),
-        Checking::UnknownRule(line) => pack(16, line, 0),
-        Checking::BadPremise(line) => pack(17, line, 0),
-        Checking::NoInstance(line) => pack(18, line, 0),
-        Checking::Accepted(lines) => pack(120, lines, 0),
-    }
+    codes::read_number(reading::read(bytes))
 }
 
 // One step of the term in the first `term_size` bytes of the area.
 #[no_mangle]
 pub extern "C" fn controller_step(area: &mut [u8], term_size: usize, work: &mut [u8]) -> u64
-    ensures { λ r. ⌜ Coded.coded r (now (area .exit)) (now (work .exit)) ≡ codedStep (steppingOf (now (area .entry)) «term_size» (now (work .entry))) ⌝ }
+    ensures { λ r. ⌜ (r, now (area .exit), now (work .exit))
+        ≡ codedStep (steppingOf (now (area .entry)) «term_size» (now (work .entry))) ⌝ }
 {
-    step_number(stepping::step(area, term_size, work))
+    codes::step_number(stepping::step(area, term_size, work))
 }
 
 // The run of the term in the first `term_size` bytes of the area.
@@ -109,18 +33,43 @@ pub extern "C" fn controller_finish(
     work: &mut [u8],
     fuel: u64,
 ) -> u64
-    ensures { λ r. ⌜ Coded.coded r (now (area .exit)) (now (work .exit)) ≡ codedFinish (finishingOf (now (area .entry)) «term_size» (now (work .entry)) fuel) ⌝ }
+    ensures { λ r. ⌜ (r, now (area .exit), now (work .exit))
+        ≡ codedFinish (finishingOf (now (area .entry)) «term_size» (now (work .entry)) fuel) ⌝ }
 {
     let finishing = finishing::finish(area, term_size, work, fuel);
     let admission = finishing.admission;
     let run = finishing.run;
-    finish_number(admission, run)
+    codes::finish_number(admission, run)
+}
+
+// Whether the terms in the first bytes of two areas have the same result.
+#[no_mangle]
+pub extern "C" fn controller_compare(
+    first: &mut [u8],
+    first_term: usize,
+    second: &mut [u8],
+    second_term: usize,
+    work: &mut [u8],
+    fuel: u64,
+) -> u64
+    ensures { λ r. ⌜ (r, now (first .exit), now (second .exit), now (work .exit))
+        ≡ codedCompare (comparingOf (now (first .entry)) «first_term» (now (second .entry)) «second_term» (now (work .entry)) fuel) ⌝ }
+{
+    codes::compare_number(comparing::compare(first, first_term, second, second_term, work, fuel))
 }
 
 // Whether each line of a derivation file follows.
 #[no_mangle]
 pub extern "C" fn controller_check(file: &[u8]) -> u64
-    ensures { λ r. ⌜ r ≡ encode (checkFields (checkingOf (now (file .entry)))) ⌝ }
+    ensures { λ r. ⌜ r ≡ checkNumber (checkingOf (now (file .entry))) ⌝ }
 {
-    check_number(checking::check_derivation(file))
+    codes::check_number(checking::check_derivation(file))
+}
+
+// Whether the last lines of two derivation files claim the same context and type.
+#[no_mangle]
+pub extern "C" fn controller_match(first: &[u8], second: &[u8]) -> u64
+    ensures { λ r. ⌜ r ≡ matchNumber (matchingOf (now (first .entry)) (now (second .entry))) ⌝ }
+{
+    codes::match_number(matching::match_claims(first, second))
 }

@@ -1,8 +1,6 @@
-pub mod Stages
-pub mod Shape
+pub mod Feeding
 pub mod Buffer
+pub mod Edges
+pub mod Shape
 pub mod Reached
 pub mod Asks
-pub mod Digits
-pub mod Writing
-pub mod Edges

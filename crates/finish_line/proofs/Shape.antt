@@ -1,23 +1,27 @@
 -- Which bytes no request begins with, and which bytes are one: the laws of `requestOf` that a line fed byte by byte needs. Carried by
--- what holds of the first piece that a mark cuts off (`first-piece`). Assumes nothing.
-use Prim.Native.Nat.{ℕ, _≤_}
+-- what holds of the first line (`first-uncut`, `first-begun`). Assumes nothing.
+use Prim.Native.Nat.{ℕ}
 use native.Mathlib.Omega.{arith}
 use mathlib.Core.Path.{_≡_, refl, _∙_, ap, ap₂}
-use mathlib.Core.Bool.{Bool, true, false, _&&_}
+use mathlib.Core.Bool.{Bool, true, false}
 use mathlib.Core.Option.{Option, none, some}
 use mathlib.Core.List.{List, [], _∷_, _++_, append-assoc}
-use lib.Dec.{leb, eqb}
-use borrow.Author.Tests.{le-leb}
-use Rattle.slices.specs.Split.{cutOr, split, fields}
+use lib.Dec.{eqb}
+use Rattle.slices.specs.Split.{tab, lineFeed, consFirst, cutOr, split, fields}
 use Rattle.slices.specs.Numeral.{decimalOf}
-use Rattle.slices.proofs.Splitting.{Free, free-append, pieces, First, first-piece, split-piece, split-last}
-use Rattle.finish_line.specs.Request.{Request, requestIf, requestWith, requestFields, requestLines, requestOf}
+use Rattle.slices.proofs.Splitting.{Free, free-append, pieces, split-front, split-piece, split-last}
+use Rattle.slices.proofs.Splitting.{First, first-map, Uncut, Begun, first-uncut, first-begun}
+use Rattle.finish_line.specs.Request.{Request, requestIf, isAreaSize, requestWith, requestFields, requestLines, requestOf}
 
 -- a line up to the end of its third field
 abbrev pub threeFields : (fuel area term : List ℕ) → List ℕ
-threeFields fuel area term = fuel ++ (9 ∷ (area ++ (9 ∷ term)))
+threeFields fuel area term = fuel ++ (tab ∷ (area ++ (tab ∷ term)))
 
--- a first line whose fields are none of a request's
+-- a field: neither mark of a line stands in it
+abbrev pub Field : List ℕ → Type 0
+Field s = Free tab s × Free lineFeed s
+
+-- a line whose fields are none of a request's
 abbrev Unasked : List ℕ → Type 0
 Unasked line = requestFields (fields line) ≡ none
 
@@ -27,7 +31,7 @@ lines-none line ([] ∷ []) e = e
 lines-none line ((b ∷ bytes) ∷ []) e = refl
 lines-none line (next ∷ other ∷ more) e = refl
 
-first-line-none : {bytes : List ℕ} → First 10 Unasked bytes → requestOf bytes ≡ none
+first-line-none : {bytes : List ℕ} → First lineFeed Unasked bytes → requestOf bytes ≡ none
 unfolding requestOf
 first-line-none f = ap requestLines (f .cut) ∙ lines-none (f .first) (f .others) (f .holds)
 
@@ -39,7 +43,7 @@ pub unsized-none : (area : List ℕ) → decimalOf area ≡ none → Unsized are
 unsized-none area e none term = refl
 unsized-none area e (some n) term = ap (λ (o : Option ℕ). requestWith (some n) o term) e
 
-pub unsized-range : (area : List ℕ) (m : ℕ) → decimalOf area ≡ some m → (leb 1 m && leb m 16384) ≡ false → Unsized area
+pub unsized-range : (area : List ℕ) (m : ℕ) → decimalOf area ≡ some m → isAreaSize m ≡ false → Unsized area
 unsized-range area m e out none term = refl
 unsized-range area m e out (some n) term =
     ap (λ (o : Option ℕ). requestWith (some n) o term) e
@@ -68,89 +72,99 @@ behind-none line b false ps first (next ∷ more) e = ap (λ (qs : List (List �
 
 -- ---- no request
 
--- bytes with no line feed
-pub open-none : (p : List ℕ) → Free 10 p → requestOf p ≡ none
-unfolding requestOf
-open-none p free = ap requestLines (split-last 10 p free)
+-- one field
+pub fuel-open : (f : List ℕ) → Free tab f → requestOf f ≡ none
+fuel-open f free = first-line-none (first-map Unasked (λ p e. ap requestFields e) (first-uncut tab lineFeed f free))
 
--- a byte that neither ends the fuel field with a number in it nor goes on with one
-pub fuel-dead : (f : List ℕ) (b : ℕ) (rest : List ℕ) → Free 9 f → Free 10 f
-    → (b ≡ 9 → decimalOf f ≡ none) → ((b ≡ 9 → ⊥) → (q : List ℕ) → decimalOf (f ++ (b ∷ q)) ≡ none)
-    → requestOf (f ++ (b ∷ rest)) ≡ none
-fuel-dead f b rest free9 free10 ended onward =
-    first-line-none
-    (first-piece 10 Unasked f b rest free10
-    (λ e. ap requestFields (split-last 9 f free9))
-    (λ e q.
-    let g = first-piece 9 (λ (s : List ℕ). decimalOf s ≡ none) f b q free9 ended onward in
-    ap requestFields (g .cut) ∙ fuel-none (g .first) (g .others) (g .holds)))
+-- a first field that is no number
+pub fuel-dead : (f rest : List ℕ) → Free tab f → decimalOf f ≡ none → requestOf (f ++ (tab ∷ rest)) ≡ none
+fuel-dead f rest free e = first-line-none (first-map Unasked unasked (first-begun tab lineFeed (omega arith) f rest free))
+  where
+    unasked : (p : List ℕ) → Begun tab f p → Unasked p
+    unasked p (Begun.uncut one) = ap requestFields one
+    unasked p (Begun.begun q more) = ap requestFields more ∙ fuel-none f (fields q) e
 
-module _ (f a : List ℕ) (f9 : Free 9 f) (f10 : Free 10 f) (a9 : Free 9 a) (a10 : Free 10 a) where
-  two-free : Free 10 (f ++ (9 ∷ a))
-  two-free = free-append 10 f (9 ∷ a) f10 (omega arith, a10)
-
-  two-none : Unasked (f ++ (9 ∷ a))
-  two-none = ap requestFields (split-piece 9 f a f9 ∙ ap (λ (ps : List (List ℕ)). f ∷ ps) (split-last 9 a a9))
-
-  -- a byte that neither ends the area field with a size in it nor goes on with one
-  pub area-dead : (b : ℕ) (rest : List ℕ) → (b ≡ 9 → Unsized a) → ((b ≡ 9 → ⊥) → (q : List ℕ) → Unsized (a ++ (b ∷ q)))
-      → requestOf (f ++ (9 ∷ a) ++ (b ∷ rest)) ≡ none
-  area-dead b rest ended onward =
+module _ (f : List ℕ) (f-field : Field f) where
+  -- the first line goes on behind a first field
+  behind-fuel : (P : List ℕ → Type 0) (s : List ℕ) → ((p : List ℕ) → P p → requestFields (f ∷ fields p) ≡ none) → First lineFeed P s
+      → requestOf (f ++ (tab ∷ s)) ≡ none
+  behind-fuel P s h g =
       first-line-none
-      (first-piece 10 Unasked (f ++ (9 ∷ a)) b rest two-free
-      (λ e. two-none)
-      (λ e q.
-      let g = first-piece 9 Unsized a b q a9 ended onward in
-      ap requestFields
-      (ap (split 9) (append-assoc f (9 ∷ a) (b ∷ q))
-      ∙ split-piece 9 f (a ++ (b ∷ q)) f9
-      ∙ ap (λ (ps : List (List ℕ)). f ∷ ps) (g .cut))
-      ∙ area-none f (g .first) (g .others) (g .holds)))
+      (record {
+        first = f ++ (tab ∷ g .first);
+        others = g .others;
+        cut = split-front lineFeed f (tab ∷ s) (f-field .1) (ap (consFirst tab) (g .cut));
+        holds = ap requestFields (split-piece tab f (g .first) (f-field .0)) ∙ h (g .first) (g .holds);
+      })
 
-  module _ (t : List ℕ) (t9 : Free 9 t) (t10 : Free 10 t) where
-    pub whole-free : Free 10 (threeFields f a t)
-    whole-free = free-append 10 f (9 ∷ (a ++ (9 ∷ t))) f10 (omega arith, free-append 10 a (9 ∷ t) a10 (omega arith, t10))
+  -- two fields
+  pub area-open : (a : List ℕ) → Free tab a → requestOf (f ++ (tab ∷ a)) ≡ none
+  area-open a free =
+      behind-fuel (Uncut tab) a (λ p e. ap (λ (ps : List (List ℕ)). requestFields (f ∷ ps)) e) (first-uncut tab lineFeed a free)
 
-    whole-fields : (others : List (List ℕ)) (rest : List ℕ) → split 9 (t ++ rest) ≡ t ∷ others
-        → split 9 (threeFields f a t ++ rest) ≡ f ∷ a ∷ t ∷ others
-    whole-fields others rest e =
-        ap (split 9) (append-assoc f (9 ∷ (a ++ (9 ∷ t))) rest ∙ ap (λ (s : List ℕ). f ++ (9 ∷ s)) (append-assoc a (9 ∷ t) rest))
-        ∙ split-piece 9 f (a ++ (9 ∷ (t ++ rest))) f9
-        ∙ ap (λ (ps : List (List ℕ)). f ∷ ps) (split-piece 9 a (t ++ rest) a9 ∙ ap (λ (ps : List (List ℕ)). a ∷ ps) e)
+  -- a second field that is no area size
+  pub area-dead : (a rest : List ℕ) → Free tab a → Unsized a → requestOf (f ++ (tab ∷ (a ++ (tab ∷ rest)))) ≡ none
+  area-dead a rest free e = behind-fuel (Begun tab a) (a ++ (tab ∷ rest)) unasked (first-begun tab lineFeed (omega arith) a rest free)
+    where
+      unasked : (p : List ℕ) → Begun tab a p → requestFields (f ∷ fields p) ≡ none
+      unasked p (Begun.uncut one) = ap (λ (ps : List (List ℕ)). requestFields (f ∷ ps)) one
+      unasked p (Begun.begun q more) = ap (λ (ps : List (List ℕ)). requestFields (f ∷ ps)) more ∙ area-none f a (fields q) e
+
+  module _ (a t : List ℕ) (a-field : Field a) (t-field : Field t) where
+    three-free : Free lineFeed (threeFields f a t)
+    three-free =
+        free-append lineFeed f (tab ∷ (a ++ (tab ∷ t))) (f-field .1)
+        (omega arith, free-append lineFeed a (tab ∷ t) (a-field .1) (omega arith, t-field .1))
+
+    three-then : (rest : List ℕ) (others : List (List ℕ)) → split tab (t ++ rest) ≡ t ∷ others
+        → split tab (threeFields f a t ++ rest) ≡ f ∷ a ∷ t ∷ others
+    three-then rest others e =
+        ap (split tab) (append-assoc f (tab ∷ (a ++ (tab ∷ t))) rest ∙ ap (λ (s : List ℕ). f ++ (tab ∷ s)) (append-assoc a (tab ∷ t) rest))
+        ∙ split-piece tab f (a ++ (tab ∷ (t ++ rest))) (f-field .0)
+        ∙ ap (λ (ps : List (List ℕ)). f ∷ ps) (split-piece tab a (t ++ rest) (a-field .0) ∙ ap (λ (ps : List (List ℕ)). a ∷ ps) e)
+
+    three-fields : split tab (threeFields f a t) ≡ f ∷ a ∷ t ∷ []
+    three-fields =
+        split-piece tab f (a ++ (tab ∷ t)) (f-field .0)
+        ∙ ap (λ (ps : List (List ℕ)). f ∷ ps)
+        (split-piece tab a t (a-field .0) ∙ ap (λ (ps : List (List ℕ)). a ∷ ps) (split-last tab t (t-field .0)))
+
+    -- no line feed
+    pub term-open : requestOf (threeFields f a t) ≡ none
+    unfolding requestOf
+    term-open = ap requestLines (split-last lineFeed (threeFields f a t) three-free)
 
     -- a third tab
-    pub tab-dead : (rest : List ℕ) → requestOf (threeFields f a t ++ (9 ∷ rest)) ≡ none
+    pub tab-dead : (rest : List ℕ) → requestOf (threeFields f a t ++ (tab ∷ rest)) ≡ none
     tab-dead rest =
+        let g = pieces lineFeed rest in
+        let h = pieces tab (g .first) in
         first-line-none
-        (first-piece 10 Unasked (threeFields f a t) 9 rest whole-free
-        (λ e. absurd (omega arith))
-        (λ e q.
-        let g = pieces 9 q in
-        ap requestFields (whole-fields (split 9 q) (9 ∷ q) (split-piece 9 t q t9))
-        ∙ four-none f a t (split 9 q) (g .first) (g .others) (g .cut)))
+        (record {
+          first = threeFields f a t ++ (tab ∷ g .first);
+          others = g .others;
+          cut = split-front lineFeed (threeFields f a t) (tab ∷ rest) three-free (ap (consFirst tab) (g .cut));
+          holds =
+              ap requestFields (three-then (tab ∷ g .first) (split tab (g .first)) (split-piece tab t (g .first) (t-field .0)))
+              ∙ four-none f a t (split tab (g .first)) (h .first) (h .others) (h .cut);
+        })
 
     -- bytes behind the line feed
-    pub ended-dead : (b : ℕ) (rest : List ℕ) → requestOf (threeFields f a t ++ (10 ∷ []) ++ (b ∷ rest)) ≡ none
+    pub ended-dead : (b : ℕ) (rest : List ℕ) → requestOf (threeFields f a t ++ (lineFeed ∷ b ∷ rest)) ≡ none
     unfolding requestOf
     ended-dead b rest =
-        ap requestLines
-        (ap (split 10) (append-assoc (threeFields f a t) (10 ∷ []) (b ∷ rest))
-        ∙ split-piece 10 (threeFields f a t) (b ∷ rest) whole-free)
-        ∙ behind-none (threeFields f a t) b (eqb b 10) (split 10 rest) (pieces 10 rest .first) (pieces 10 rest .others) (pieces 10 rest .cut)
+        let g = pieces lineFeed rest in
+        ap requestLines (split-piece lineFeed (threeFields f a t) (b ∷ rest) three-free)
+        ∙ behind-none (threeFields f a t) b (eqb b lineFeed) (split lineFeed rest) (g .first) (g .others) (g .cut)
 
     -- ---- a request
 
     -- the line feed behind three fields, two of them numbers, the second in range
-    pub ended-asks : (n m : ℕ) → decimalOf f ≡ some n → decimalOf a ≡ some m → 1 ≤ m → m ≤ 16384
-        → requestOf (threeFields f a t ++ (10 ∷ [])) ≡ some (Request.request n m t)
+    pub ended-asks : (n m : ℕ) → decimalOf f ≡ some n → decimalOf a ≡ some m → isAreaSize m ≡ true
+        → requestOf (threeFields f a t ++ (lineFeed ∷ [])) ≡ some (Request.request n m t)
     unfolding requestOf
-    ended-asks n m fuel area low high =
-        ap requestLines (split-piece 10 (threeFields f a t) [] whole-free)
-        ∙ ap requestFields three
+    ended-asks n m fuel area sized =
+        ap requestLines (split-piece lineFeed (threeFields f a t) [] three-free)
+        ∙ ap requestFields three-fields
         ∙ ap₂ (λ (x y : Option ℕ). requestWith x y t) fuel area
-        ∙ ap (λ (u : Bool). requestIf u (Request.request n m t)) (ap₂ _&&_ (le-leb 1 m low) (le-leb m 16384 high))
-      where
-        three : split 9 (threeFields f a t) ≡ f ∷ a ∷ t ∷ []
-        three =
-            split-piece 9 f (a ++ (9 ∷ t)) f9
-            ∙ ap (λ (ps : List (List ℕ)). f ∷ ps) (split-piece 9 a t a9 ∙ ap (λ (ps : List (List ℕ)). a ∷ ps) (split-last 9 t t9))
+        ∙ ap (λ (u : Bool). requestIf u (Request.request n m t)) sized

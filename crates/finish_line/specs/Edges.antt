@@ -1,14 +1,11 @@
--- Inputs at the edges of the finishing program's line, and lines that the programs print, as rows of a table. `proofs/Edges.antt` has the
--- proof that covers it. Document 01: "Numbers have no leading zeros; an empty term field is 6 at 0. Input of any other shape, or an area
--- size out of range, is 19 at place 0, ahead of finishing's own numbers."
+-- Inputs at the edges of the finishing program's line, as rows of a table (REQUIREMENTS, Programs). `proofs/Edges.antt` has the proof that
+-- covers it.
 use Prim.Native.Nat.{ℕ}
 use Prim.Native.String.{String}
 use mathlib.Core.List.{List, [], _∷_}
 use mathlib.Core.Option.{Option, none, some}
-use Rattle.calculus.specs.Examples.{ascii}
+use Rattle.calculus.specs.Ascii.{ascii}
 use Rattle.finish_line.specs.Request.{Request}
-use Rattle.finish_line.specs.Printed.{lineOf, numbersOf}
-use Rattle.finish_line.specs.Fields.{countOf}
 
 pub record Row : Type 0 where
   pub input : String
@@ -52,22 +49,4 @@ rows =
     other "6\t16385\tJ\n" ∷
     other "6\t1111111111222222222233333333334444444444\tJ\n" ∷
     other "6\t-12\tJ\n" ∷
-    []
-
--- a line as a program prints it, and its text
-pub record Print : Type 0 where
-  pub line : List ℕ
-  pub expected : String
-
-abbrev pub print : List ℕ → String → Print
-print line expected = record { line = line; expected = expected }
-
-abbrev pub prints : List Print
-prints =
-    print (lineOf (ascii "finished") 6 (ascii "J")) "finished\t6\tJ\n" ∷
-    print (lineOf (ascii "spent") 0 (ascii ".II")) "spent\t0\t.II\n" ∷
-    print (lineOf (ascii "no room") 1000000 (ascii ".BIIHJRJ")) "no room\t1000000\t.BIIHJRJ\n" ∷
-    print (numbersOf (ascii "refused") 19 0) "refused\t19\t0\n" ∷
-    print (numbersOf (ascii "refused") 6 16384) "refused\t6\t16384\n" ∷
-    print (countOf (ascii "accepted") 1024) "accepted\t1024\n" ∷
     []

@@ -1,46 +1,43 @@
-// The finishing program's line, read chunk by chunk, and the lines that the programs print.
+// The finishing program's line, read chunk by chunk.
+use decimals::Decimal;
+use decimals::Parsed;
 ghost use mathlib.Core.Path.{_≡_};
-ghost use Prim.Native.Nat.{_+_, _-_, _≤_, _<_};
-ghost use lib.Dec.{leb};
-ghost use lib.ListN.{length, set};
-ghost use Rattle.slices.specs.Numeral.{isDigit};
-ghost use Rattle.slices.specs.Put.{put, behind};
-ghost use Rattle.finish_line.specs.Fed.{state, fed, startLine, fedLine, isKept, isTermByte, keptByte, more, fuelFirst, fuelZero, fuelMore, areaFirst, areaMore, inTerm};
-ghost use Rattle.finish_line.specs.Fed.{moved as Fed·moved, fuelled as Fed·fuelled, sized as Fed·sized, lengthened as Fed·lengthened};
-ghost use Rattle.finish_line.specs.Answer.{askedOf};
-ghost use Rattle.finish_line.specs.Printed.{lineOf, numbersOf};
-ghost use Rattle.finish_line.specs.Fields.{fieldsOf, pairOf, countOf};
+ghost use lib.ListN.{set};
+ghost use Rattle.finish_line.specs.Request.{isAreaSize};
+ghost use Rattle.finish_line.specs.Fed.{state, fed, startLine, fedLine, isTermByte, keptAt, keptByte};
+ghost use Rattle.finish_line.specs.Fed.{inFuel, fuelRead, inArea, areaRead, inTerm, counted};
+ghost use Rattle.finish_line.specs.Answer.{askedOf, numberOf};
 
-// The least fuel, area size and term length that are refused whatever they are.
-const FUEL_CAP: u64 = 1_000_001;
+// The largest area size, and the least fuel, area size and term length that are refused whatever they are.
+const AREA_LIMIT: u64 = calculus::AREA_LIMIT as u64;
 
-const AREA_CAP: u64 = 16_385;
+const FUEL_CAP: u64 = calculus::FUEL_LIMIT + 1;
 
-const LENGTH_CAP: usize = 16_385;
+const AREA_CAP: u64 = AREA_LIMIT + 1;
 
-// Where in the line the next byte stands.
-pub enum Stage {
-    // At the first byte of the fuel field, behind a `0`, behind other digits.
-    FuelFirst,
-    FuelZero,
-    FuelMore,
-    // At the first byte of the area field, behind digits.
-    AreaFirst,
-    AreaMore,
-    // In the term field.
-    InTerm,
+const LENGTH_CAP: usize = calculus::AREA_LIMIT + 1;
+
+// The line so far, by the field that the next byte stands in. A number is kept up to its cap; the term's bytes are in a buffer that the
+// caller lends.
+pub enum Line {
+    InFuel(Decimal),
+    InArea {
+        fuel: u64,
+        number: Decimal,
+    },
+    InTerm {
+        fuel: u64,
+        area: usize,
+        length: usize,
+    },
     // Behind the line feed.
-    Ended,
+    Ended {
+        fuel: u64,
+        area: usize,
+        length: usize,
+    },
     // Behind bytes of another shape.
     Other,
-}
-
-// The line so far. Each number is kept up to its cap; the term's bytes are in a buffer that the caller lends.
-pub struct Line {
-    stage: Stage,
-    fuel: u64,
-    area: u64,
-    length: usize,
 }
 
 // What the whole input asks for.
@@ -55,16 +52,21 @@ pub enum Asked {
     },
 }
 
+// The number of input of another shape, 0 of a request.
+pub fn number(asked: Asked) -> u64
+    ensures { λ r. ⌜ r ≡ numberOf asked ⌝ }
+{
+    match asked {
+        Asked::OtherShape => 19,
+        Asked::Request { .. } => 0,
+    }
+}
+
 // A line before its first byte.
 pub fn start() -> Line
     ensures { λ r. ⌜ r ≡ startLine ⌝ }
 {
-    Line {
-        stage: Stage::FuelFirst,
-        fuel: 0,
-        area: 0,
-        length: 0,
-    }
+    Line::InFuel(Decimal::Empty)
 }
 
 // Feeds a chunk of the input; the term's first bytes go into `term`, as many as fit, the first 16,385 at most.
@@ -86,20 +88,12 @@ pub fn feed(line: Line, chunk: &[u8], term: &mut [u8]) -> Line
 pub fn asked_for(line: Line) -> Asked
     ensures { λ r. ⌜ r ≡ askedOf line ⌝ }
 {
-    let stage = line.stage;
-    match stage {
-        Stage::FuelFirst => Asked::OtherShape,
-        Stage::FuelZero => Asked::OtherShape,
-        Stage::FuelMore => Asked::OtherShape,
-        Stage::AreaFirst => Asked::OtherShape,
-        Stage::AreaMore => Asked::OtherShape,
-        Stage::InTerm => Asked::OtherShape,
-        Stage::Ended => Asked::Request {
-            fuel: line.fuel,
-            area: line.area as usize,
-            length: line.length,
-        },
-        Stage::Other => Asked::OtherShape,
+    match line {
+        Line::InFuel(_) => Asked::OtherShape,
+        Line::InArea { .. } => Asked::OtherShape,
+        Line::InTerm { .. } => Asked::OtherShape,
+        Line::Ended { fuel, area, length } => Asked::Request { fuel, area, length },
+        Line::Other => Asked::OtherShape,
     }
 }
 
@@ -107,26 +101,21 @@ pub fn asked_for(line: Line) -> Asked
 fn keep(line: Line, b: u8, term: &mut [u8])
     ensures { λ _. ⌜ now (term .exit) ≡ keptByte line b (now (term .entry)) ⌝ }
 {
-    let at = line.length;
-    if is_kept(line, b) {
-        store(term, at, b);
+    match line {
+        Line::InFuel(_) => {}
+        Line::InArea { .. } => {}
+        Line::InTerm { length, .. } => keep_at(length, b, term),
+        Line::Ended { .. } => {}
+        Line::Other => {}
     }
 }
 
-// Whether a byte is one of the term's that are kept.
-fn is_kept(line: Line, b: u8) -> bool
-    ensures { λ r. ⌜ r ≡ isKept line b ⌝ }
+// Keeps a byte of the term field at an index, where it is one of the term's and has room.
+fn keep_at(length: usize, b: u8, term: &mut [u8])
+    ensures { λ _. ⌜ now (term .exit) ≡ keptAt «length» b (now (term .entry)) ⌝ }
 {
-    let stage = line.stage;
-    match stage {
-        Stage::FuelFirst => false,
-        Stage::FuelZero => false,
-        Stage::FuelMore => false,
-        Stage::AreaFirst => false,
-        Stage::AreaMore => false,
-        Stage::InTerm => is_term_byte(line.length, b),
-        Stage::Ended => false,
-        Stage::Other => false,
+    if is_term_byte(length, b) {
+        store(term, length, b);
     }
 }
 
@@ -134,10 +123,10 @@ fn is_kept(line: Line, b: u8) -> bool
 fn is_term_byte(length: usize, b: u8) -> bool
     ensures { λ r. ⌜ r ≡ isTermByte «length» b ⌝ }
 {
-    if b == 10 {
+    if b == slices::LINE_FEED {
         return false;
     }
-    if b == 9 {
+    if b == slices::TAB {
         return false;
     }
     length < LENGTH_CAP
@@ -156,257 +145,98 @@ fn store(term: &mut [u8], at: usize, b: u8)
 fn fed_line(line: Line, b: u8) -> Line
     ensures { λ r. ⌜ r ≡ fedLine line b ⌝ }
 {
-    let stage = line.stage;
-    match stage {
-        Stage::FuelFirst => fuel_first(line, b),
-        Stage::FuelZero => fuel_zero(line, b),
-        Stage::FuelMore => fuel_more(line, b),
-        Stage::AreaFirst => area_first(line, b),
-        Stage::AreaMore => area_more(line, b),
-        Stage::InTerm => in_term(line, b),
-        Stage::Ended => moved(Stage::Other, line),
-        Stage::Other => moved(Stage::Other, line),
+    match line {
+        Line::InFuel(number) => in_fuel(number, b),
+        Line::InArea { fuel, number } => in_area(fuel, number, b),
+        Line::InTerm { fuel, area, length } => in_term(fuel, area, length, b),
+        Line::Ended { .. } => Line::Other,
+        Line::Other => Line::Other,
     }
 }
 
-// The first byte of the fuel field.
-fn fuel_first(line: Line, b: u8) -> Line
-    ensures { λ r. ⌜ r ≡ fuelFirst b line ⌝ }
+// A byte of the fuel field, or the tab that ends it.
+fn in_fuel(number: Decimal, b: u8) -> Line
+    ensures { λ r. ⌜ r ≡ inFuel «number» b ⌝ }
 {
-    if b == 48 {
-        return fuelled(Stage::FuelZero, 0, line);
+    if b == slices::TAB {
+        return fuel_read(decimals::number(number));
     }
-    if is_digit(b) {
-        return fuelled(Stage::FuelMore, value(b), line);
-    }
-    moved(Stage::Other, line)
+    Line::InFuel(decimals::feed(number, b, FUEL_CAP))
 }
 
-// The byte behind a fuel of `0`.
-fn fuel_zero(line: Line, b: u8) -> Line
-    ensures { λ r. ⌜ r ≡ fuelZero b line ⌝ }
+// The line behind the fuel field.
+fn fuel_read(parsed: Parsed) -> Line
+    ensures { λ r. ⌜ r ≡ fuelRead parsed ⌝ }
 {
-    if b == 9 {
-        return moved(Stage::AreaFirst, line);
+    let Parsed::Number(fuel) = parsed else {
+        return Line::Other;
+    };
+    Line::InArea {
+        fuel,
+        number: Decimal::Empty,
     }
-    moved(Stage::Other, line)
 }
 
-// A further byte behind the digits of the fuel.
-fn fuel_more(line: Line, b: u8) -> Line
-    ensures { λ r. ⌜ r ≡ fuelMore b line ⌝ }
+// A byte of the area field, or the tab that ends it.
+fn in_area(fuel: u64, number: Decimal, b: u8) -> Line
+    ensures { λ r. ⌜ r ≡ inArea fuel «number» b ⌝ }
 {
-    if b == 9 {
-        return moved(Stage::AreaFirst, line);
+    if b == slices::TAB {
+        return area_read(fuel, decimals::number(number));
     }
-    if is_digit(b) {
-        return fuelled(Stage::FuelMore, one_more(FUEL_CAP, line.fuel, b), line);
+    Line::InArea {
+        fuel,
+        number: decimals::feed(number, b, AREA_CAP),
     }
-    moved(Stage::Other, line)
 }
 
-// The first byte of the area field.
-fn area_first(line: Line, b: u8) -> Line
-    ensures { λ r. ⌜ r ≡ areaFirst b line ⌝ }
+// The line behind the area field.
+fn area_read(fuel: u64, parsed: Parsed) -> Line
+    ensures { λ r. ⌜ r ≡ areaRead fuel parsed ⌝ }
 {
-    if b == 48 {
-        return moved(Stage::Other, line);
+    let Parsed::Number(area) = parsed else {
+        return Line::Other;
+    };
+    if is_area_size(area) {
+        return Line::InTerm {
+            fuel,
+            area: area as usize,
+            length: 0,
+        };
     }
-    if is_digit(b) {
-        return sized(Stage::AreaMore, value(b), line);
-    }
-    moved(Stage::Other, line)
+    Line::Other
 }
 
-// A further byte behind the digits of the area size.
-fn area_more(line: Line, b: u8) -> Line
-    ensures { λ r. ⌜ r ≡ areaMore b line ⌝ }
+// Whether an area size is in range.
+fn is_area_size(n: u64) -> bool
+    ensures { λ r. ⌜ r ≡ isAreaSize n ⌝ }
 {
-    if b == 9 {
-        if line.area < AREA_CAP {
-            return moved(Stage::InTerm, line);
-        }
-        return moved(Stage::Other, line);
-    }
-    if is_digit(b) {
-        return sized(Stage::AreaMore, one_more(AREA_CAP, line.area, b), line);
-    }
-    moved(Stage::Other, line)
+    1 <= n && n <= AREA_LIMIT
 }
 
 // A byte of the term field, or the line feed that ends it.
-fn in_term(line: Line, b: u8) -> Line
-    ensures { λ r. ⌜ r ≡ inTerm b line ⌝ }
+fn in_term(fuel: u64, area: usize, length: usize, b: u8) -> Line
+    ensures { λ r. ⌜ r ≡ inTerm fuel area «length» b ⌝ }
 {
-    if b == 10 {
-        return moved(Stage::Ended, line);
+    if b == slices::LINE_FEED {
+        return Line::Ended { fuel, area, length };
     }
-    if b == 9 {
-        return moved(Stage::Other, line);
+    if b == slices::TAB {
+        return Line::Other;
     }
-    lengthened(line)
-}
-
-// The line with one byte of the term more.
-fn lengthened(line: Line) -> Line
-    ensures { λ r. ⌜ r ≡ Fed·lengthened line ⌝ }
-{
-    let mut length = LENGTH_CAP;
-    if line.length < LENGTH_CAP {
-        length = line.length + 1;
-    }
-    Line {
-        stage: Stage::InTerm,
-        fuel: line.fuel,
-        area: line.area,
-        length,
-    }
-}
-
-// The line at another stage.
-fn moved(stage: Stage, line: Line) -> Line
-    ensures { λ r. ⌜ r ≡ Fed·moved stage line ⌝ }
-{
-    Line {
-        stage,
-        fuel: line.fuel,
-        area: line.area,
-        length: line.length,
-    }
-}
-
-// The line at another stage, with another fuel.
-fn fuelled(stage: Stage, fuel: u64, line: Line) -> Line
-    ensures { λ r. ⌜ r ≡ Fed·fuelled stage fuel line ⌝ }
-{
-    Line {
-        stage,
+    Line::InTerm {
         fuel,
-        area: line.area,
-        length: line.length,
-    }
-}
-
-// The line at another stage, with another area size.
-fn sized(stage: Stage, area: u64, line: Line) -> Line
-    ensures { λ r. ⌜ r ≡ Fed·sized stage area line ⌝ }
-{
-    Line {
-        stage,
-        fuel: line.fuel,
         area,
-        length: line.length,
+        length: one_longer(length),
     }
 }
 
-// Whether a byte is a decimal digit.
-fn is_digit(b: u8) -> bool
-    ensures { λ r. ⌜ r ≡ isDigit b ⌝ }
+// The length of a term with one byte more, at most the cap.
+fn one_longer(length: usize) -> usize
+    ensures { λ r. ⌜ r ≡ counted «length» ⌝ }
 {
-    48 <= b && b <= 57
-}
-
-// The number that a digit stands for, and 0 below the digits.
-fn value(b: u8) -> u64
-    ensures { λ r. ⌜ r ≡ b - 48 ⌝ }
-{
-    if b < 48 {
-        return 0;
+    if length < LENGTH_CAP {
+        return length + 1;
     }
-    (b - 48) as u64
-}
-
-// A number with one digit more, and the cap where that is larger.
-fn one_more(cap: u64, n: u64, b: u8) -> u64
-    requires { ⌜ cap ≤ 1000001 ⌝ }
-    ensures { λ r. ⌜ r ≡ more cap n b ⌝ }
-{
-    if cap <= n {
-        return cap;
-    }
-    let m = n * 10 + value(b);
-    if m < cap {
-        return m;
-    }
-    cap
-}
-
-// Prints a word, a number and further bytes, tabs between, at the start of `out` and answers how many bytes that are.
-// Where the line does not fit, nothing changes and the answer is 0.
-pub fn print_line(word: &[u8], number: u64, rest: &[u8], out: &mut [u8]) -> usize
-    ensures { λ r. ⌜ (now (out .exit) ≡ put 0 (lineOf (now (word .entry)) number (now (rest .entry))) (now (out .entry)))
-        × (r ≡ behind 0 (lineOf (now (word .entry)) number (now (rest .entry))) (now (out .entry))) ⌝ }
-{
-    let mut text = [0u8; 20];
-    let k = io::decimal(number, &mut text);
-    print_fields(word, &text[..k], rest, out)
-}
-
-// Prints a word and two numbers, tabs between, as `print_line` does.
-pub fn print_numbers(word: &[u8], first: u64, second: u64, out: &mut [u8]) -> usize
-    ensures { λ r. ⌜ (now (out .exit) ≡ put 0 (numbersOf (now (word .entry)) first second) (now (out .entry)))
-        × (r ≡ behind 0 (numbersOf (now (word .entry)) first second) (now (out .entry))) ⌝ }
-{
-    let mut text = [0u8; 20];
-    let k = io::decimal(second, &mut text);
-    print_line(word, first, &text[..k], out)
-}
-
-// Prints a word and a number, a tab between, as `print_line` does.
-pub fn print_count(word: &[u8], count: u64, out: &mut [u8]) -> usize
-    ensures { λ r. ⌜ (now (out .exit) ≡ put 0 (countOf (now (word .entry)) count) (now (out .entry)))
-        × (r ≡ behind 0 (countOf (now (word .entry)) count) (now (out .entry))) ⌝ }
-{
-    let mut text = [0u8; 20];
-    let k = io::decimal(count, &mut text);
-    print_pair(word, &text[..k], out)
-}
-
-// Prints three fields, where they fit.
-fn print_fields(first: &[u8], second: &[u8], third: &[u8], out: &mut [u8]) -> usize
-    ensures { λ r. ⌜ (now (out .exit) ≡ put 0 (fieldsOf (now (first .entry)) (now (second .entry)) (now (third .entry))) (now (out .entry)))
-        × (r ≡ behind 0 (fieldsOf (now (first .entry)) (now (second .entry)) (now (third .entry))) (now (out .entry))) ⌝ }
-{
-    if fits(first.len(), second.len(), third.len(), 3, out.len()) {
-        let a = slices::append(first, 0, first.len(), out, 0);
-        let b = slices::append_byte(9, out, a);
-        let c = slices::append(second, 0, second.len(), out, b);
-        let d = slices::append_byte(9, out, c);
-        let e = slices::append(third, 0, third.len(), out, d);
-        return slices::append_byte(10, out, e);
-    }
-    0
-}
-
-// Prints two fields, where they fit.
-fn print_pair(first: &[u8], second: &[u8], out: &mut [u8]) -> usize
-    ensures { λ r. ⌜ (now (out .exit) ≡ put 0 (pairOf (now (first .entry)) (now (second .entry))) (now (out .entry)))
-        × (r ≡ behind 0 (pairOf (now (first .entry)) (now (second .entry))) (now (out .entry))) ⌝ }
-{
-    if fits(first.len(), second.len(), 0, 2, out.len()) {
-        let a = slices::append(first, 0, first.len(), out, 0);
-        let b = slices::append_byte(9, out, a);
-        let c = slices::append(second, 0, second.len(), out, b);
-        return slices::append_byte(10, out, c);
-    }
-    0
-}
-
-// Whether three fields of these lengths fit, with that many bytes between and behind them.
-fn fits(first: usize, second: usize, third: usize, marks: usize, room: usize) -> bool
-    ensures { λ r. ⌜ r ≡ leb (first + second + third + marks) room ⌝ }
-{
-    if room < first {
-        return false;
-    }
-    if room - first < second {
-        return false;
-    }
-    if room - first - second < third {
-        return false;
-    }
-    if room - first - second - third < marks {
-        return false;
-    }
-    true
+    LENGTH_CAP
 }

@@ -13,8 +13,8 @@ use Rattle.calculus.proofs.PrefixCode.{termOf-text}
 use Rattle.reading.specs.declared.Reading.{Reading}
 use Rattle.reading.specs.declared.Reading.the-variants.{Whole, NoLetter, NotWhole, Beyond}
 use Rattle.reading.proofs.Reading.{the-type}
-use Rattle.reading.specs.Reply.{Reply}
-use Rattle.reading.specs.Reading.{readingOf, refusal, orRefusal, termRead}
+use Rattle.reading.specs.Reply.{Reply, passedOn}
+use Rattle.reading.specs.Reading.{readingOf, orRefusal, termRead}
 use Rattle.reading.specs.Answer.{answerOf as readingAnswer}
 use Rattle.reading.proofs.Whole.{whole-term, refused-none}
 use Rattle.finishing.specs.Finishing.{admitted, admission}
@@ -50,7 +50,9 @@ module _ (area : List ℕ) (len : ℕ) (work : List ℕ) (fuel : ℕ) where
           read-decides r e = rw (le-ltb _ _ short, le-ltb _ _ room, le-ltb _ _ within, le-ltb _ _ fuelled) e
 
           -- what reading refuses
-          reading-refused : (number place : ℕ) → Reply.refused number place ≡ readingOf (take len area) → Reply.refused number place ≡ admission (admitted area len work fuel)
+          reading-refused :
+              (number place : ℕ) → Reply.refused number place ≡ readingOf (take len area) →
+              Reply.refused number place ≡ admission (admitted area len work fuel)
           unfolding termRead
           reading-refused number place e =
               sym
@@ -60,7 +62,7 @@ module _ (area : List ℕ) (len : ℕ) (work : List ℕ) (fuel : ℕ) where
           -- what is not whole is refused
           pub unread :
               (r : Reading) → readingAnswer r ≡ readingOf (take len area) → OneOf (1 ∷ 2 ∷ 3 ∷ []) (tagOf the-type r) →
-              refusal (readingAnswer r) ≡ admission (admitted area len work fuel)
+              passedOn (readingAnswer r) ≡ admission (admitted area len work fuel)
           unread (Whole n) e k = absurd (miss (1 ∷ 2 ∷ 3 ∷ []) 0 tt k)
           unread (NoLetter place) e k = reading-refused 5 place e
           unread (NotWhole place) e k = reading-refused 6 place e

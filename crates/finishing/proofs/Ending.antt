@@ -10,8 +10,7 @@ use lib.ListN.{length, take, replicate}
 use Rattle.calculus.specs.Term.{Term, text, size}
 use Rattle.calculus.specs.Run.{Outcome, run, count, reached}
 use Rattle.calculus.proofs.Runs.{count-fuel}
-use Rattle.reading.specs.Reply.{Reply}
-use Rattle.reading.specs.Reading.{refusal}
+use Rattle.reading.specs.Reply.{Reply, passedOn}
 use Rattle.reading.specs.Answer.{answerOf as readingAnswer}
 use Rattle.stepping.specs.Areas.{holding, cleared}
 use Rattle.stepping.specs.Held.{Holds}
@@ -36,16 +35,17 @@ admission-answered (Reply.refused m q) e = let z : _≡_ {A = ℕ} 0 1 = cc in a
 admission-answered (Reply.answered t) e = (t, refl)
 
 -- each case but the last is a refusal
-pub reply-refused : (a : Admission) → OneOf (0 ∷ 1 ∷ 2 ∷ 3 ∷ 4 ∷ []) (tagOf the-type a) → (n : ℕ) × (p : ℕ) × (replyOf a ≡ Reply.refused n p)
+pub reply-refused :
+    (a : Admission) → OneOf (0 ∷ 1 ∷ 2 ∷ 3 ∷ 4 ∷ []) (tagOf the-type a) → (n : ℕ) × (p : ℕ) × (replyOf a ≡ Reply.refused n p)
 reply-refused AreaTooLong k = (1, 0, refl)
 reply-refused WorkTooShort k = (2, 0, refl)
 reply-refused LengthTooLong k = (3, 0, refl)
 reply-refused FuelTooHigh k = (4, 0, refl)
 reply-refused (Unread reading) k = go (readingAnswer reading)
   where
-    go : (r : Reply ℕ) → (n : ℕ) × (p : ℕ) × (refusal {X = Unit} r ≡ Reply.refused n p)
+    go : (r : Reply ℕ) → (n : ℕ) × (p : ℕ) × (passedOn {Y = Unit} r ≡ Reply.refused n p)
     go (Reply.refused n p) = (n, p, refl)
-    go (Reply.answered n) = (0, n, refl)
+    go (Reply.answered n) = (0, 0, refl)
 reply-refused Admitted k = absurd (miss (0 ∷ 1 ∷ 2 ∷ 3 ∷ 4 ∷ []) 5 tt k)
 
 -- the last is none
@@ -59,7 +59,9 @@ reply-admitted Admitted k = refl
 
 module _ (area : List ℕ) (len : ℕ) (work : List ℕ) (fuel : ℕ) (a : Admission) (said : replyOf a ≡ admission (admitted area len work fuel)) where
   -- a call that is refused, and by what
-  pub said-refused : OneOf (0 ∷ 1 ∷ 2 ∷ 3 ∷ 4 ∷ []) (tagOf the-type a) → (n : ℕ) × (p : ℕ) × (replyOf a ≡ Reply.refused n p) × (admitted area len work fuel ≡ Reply.refused n p)
+  pub said-refused :
+      OneOf (0 ∷ 1 ∷ 2 ∷ 3 ∷ 4 ∷ []) (tagOf the-type a) →
+      (n : ℕ) × (p : ℕ) × (replyOf a ≡ Reply.refused n p) × (admitted area len work fuel ≡ Reply.refused n p)
   said-refused k =
       let (n, p, e) = reply-refused a k in
       (n, p, e, admission-refused (admitted area len work fuel) (sym e ∙ said))
@@ -71,7 +73,8 @@ module _ (area : List ℕ) (len : ℕ) (work : List ℕ) (fuel : ℕ) (a : Admis
   -- ---- the ways out of `finish`
 
   -- a refusal
-  pub after-refused : OneOf (0 ∷ 1 ∷ 2 ∷ 3 ∷ 4 ∷ []) (tagOf the-type a) → After.after (replyOf a) noRun area work ≡ finishingOf area len work fuel
+  pub after-refused :
+      OneOf (0 ∷ 1 ∷ 2 ∷ 3 ∷ 4 ∷ []) (tagOf the-type a) → After.after (replyOf a) noRun area work ≡ finishingOf area len work fuel
   unfolding finishingOf
   after-refused k =
       let (n, p, e, f) = said-refused k in

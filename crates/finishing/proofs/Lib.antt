@@ -5,3 +5,4 @@ pub mod Stops
 pub mod Lending
 pub mod Loop
 pub mod Ending
+pub mod RunOf

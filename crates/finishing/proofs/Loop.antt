@@ -10,8 +10,7 @@ use lib.ListN.{length, take}
 use Rattle.calculus.specs.Term.{Term, size}
 use Rattle.calculus.specs.Order.{Next, next}
 use Rattle.calculus.specs.Run.{Outcome, run, reached}
-use Rattle.reading.specs.Reply.{Reply}
-use Rattle.reading.specs.Reading.{refusal}
+use Rattle.reading.specs.Reply.{Reply, passedOn}
 use Rattle.reading.specs.Answer.{answerOf as readingAnswer}
 use Rattle.stepping.specs.Held.{Holds}
 use Rattle.stepping.specs.Stepping.{Stepped}
@@ -30,7 +29,7 @@ use Rattle.finishing.proofs.Lending.{held-size}
 
 module _ {area area′ : List ℕ} {t : Term} where
   -- it did not refuse
-  never : (r : Reply ℕ) → ¬ StepsOn area area′ t (refusal r)
+  never : (r : Reply ℕ) → ¬ StepsOn area area′ t (passedOn r)
   never (Reply.refused number place) s = elim s [ ]
   never (Reply.answered n) s = elim s [ ]
 
@@ -75,7 +74,9 @@ at-start fuel area len work ready =
     }
 
 -- the record of a run that has come to its end, beside the term that the area holds
-reaches : {fuel len : ℕ} {area : List ℕ} {size′ made : ℕ} {t u : Term} (o : Outcome) → Comes fuel len t made u o → Holds area size′ u → Reaches t (run fuel len t) (Ran.ran o made size′) area
+reaches :
+    {fuel len : ℕ} {area : List ℕ} {size′ made : ℕ} {t u : Term} (o : Outcome) → Comes fuel len t made u o → Holds area size′ u →
+    Reaches t (run fuel len t) (Ran.ran o made size′) area
 reaches {fuel} {len} {area} {size′} {made} {t} {u} o come held =
     let end = reached t (run fuel len t) in
     let sized : size′ ≡ size end = held-size held ∙ sym (ap size (come .reaches)) in
@@ -97,7 +98,9 @@ module _ {fuel : ℕ} {area₀ : List ℕ} {len made : ℕ} {area : List ℕ} {s
         At fuel area₀ len (made + 1) area′ next work′
     at-step rule next work′ e long wide = go (subst (λ (x : Stepping). StepsOn area area′ (at .ready .term) (answerOf x)) e now)
       where
-        go : {n : ℕ} → StepsOn area area′ (at .ready .term) (Reply.answered (Stepped.stepped rule n)) → At fuel area₀ len (made + 1) area′ n work′
+        go :
+            {n : ℕ} → StepsOn area area′ (at .ready .term) (Reply.answered (Stepped.stepped rule n)) →
+            At fuel area₀ len (made + 1) area′ n work′
         go (StepsOn.stepped {u = u} f fits held) =
             record {
               ready = record { short = omega (arith, at .ready .short); room = omega (arith, at .ready .room); term = u; held = held };
@@ -106,7 +109,9 @@ module _ {fuel : ℕ} {area₀ : List ℕ} {len made : ℕ} {area : List ℕ} {s
             }
 
     -- no room
-    pub at-no-room : tagOf the-type r ≡ 5 → (t : Term) → Holds area₀ len t → Reaches t (run fuel (length area₀) t) (Ran.ran Outcome.no-room made size) area′
+    pub at-no-room :
+        tagOf the-type r ≡ 5 → (t : Term) → Holds area₀ len t →
+        Reaches t (run fuel (length area₀) t) (Ran.ran Outcome.no-room made size) area′
     at-no-room k t h =
         let (n, u, e, larger, held) = answered-no-room r k now in
         reaches Outcome.no-room (comes-no-room (at .passes t h) more e (omega (arith, at .long))) (subst (λ (m : ℕ). Holds area′ m (at .ready .term)) (sym (held-size (at .ready .held))) held)
@@ -122,14 +127,18 @@ module _ {fuel : ℕ} {area₀ : List ℕ} {len made : ℕ} {area : List ℕ} {s
   -- ---- with no fuel left
 
   -- a full stop: spent
-  pub at-stop : fuel ≤ made → true ≡ hasStop (take size area) → (t : Term) → Holds area₀ len t → Reaches t (run fuel (length area₀) t) (Ran.ran Outcome.spent made size) area
+  pub at-stop :
+      fuel ≤ made → true ≡ hasStop (take size area) → (t : Term) → Holds area₀ len t →
+      Reaches t (run fuel (length area₀) t) (Ran.ran Outcome.spent made size) area
   at-stop all e t h =
       let (n, u, f) = stop-next (at .ready .term) (ap hasStop (sym (at .ready .held .written)) ∙ sym e) in
       let passes = at .passes t h in
       reaches Outcome.spent (comes-spent passes (omega (arith, passes .bounded)) f) (at .ready .held)
 
   -- none: finished
-  pub at-no-stop : false ≡ hasStop (take size area) → (t : Term) → Holds area₀ len t → Reaches t (run fuel (length area₀) t) (Ran.ran Outcome.finished made size) area
+  pub at-no-stop :
+      false ≡ hasStop (take size area) → (t : Term) → Holds area₀ len t →
+      Reaches t (run fuel (length area₀) t) (Ran.ran Outcome.finished made size) area
   at-no-stop e t h =
       reaches Outcome.finished
       (comes-finished (at .passes t h) (no-stop-next (at .ready .term) (ap hasStop (sym (at .ready .held .written)) ∙ sym e)))

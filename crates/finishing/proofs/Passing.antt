@@ -46,12 +46,16 @@ pub record Comes (fuel area : ℕ) (t : Term) (made : ℕ) (u : Term) (o : Outco
   pub counts : count (run fuel area t) ≡ made
   pub reaches : reached t (run fuel area t) ≡ u
 
-comes : {fuel area : ℕ} {t : Term} {made : ℕ} {u : Term} (o : Outcome) → Passes fuel area t made u → run (fuel - made) area u ≡ Run.end o → Comes fuel area t made u o
+comes :
+    {fuel area : ℕ} {t : Term} {made : ℕ} {u : Term} (o : Outcome) → Passes fuel area t made u → run (fuel - made) area u ≡ Run.end o →
+    Comes fuel area t made u o
 comes {u = u} o p e =
     record { ends = p .ends ∙ ap outcome e; counts = omega (arith, p .counts, ap count e); reaches = p .reaches ∙ ap (reached u) e }
 
 -- finished where nothing comes next
-pub comes-finished : {fuel area : ℕ} {t : Term} {made : ℕ} {u : Term} → Passes fuel area t made u → next u ≡ Next.stop → Comes fuel area t made u Outcome.finished
+pub comes-finished :
+    {fuel area : ℕ} {t : Term} {made : ℕ} {u : Term} → Passes fuel area t made u → next u ≡ Next.stop →
+    Comes fuel area t made u Outcome.finished
 comes-finished {fuel} {area} {made = made} {u = u} p e = comes Outcome.finished p (run-stop (fuel - made) area u e)
 
 -- spent where the steps made equal the fuel

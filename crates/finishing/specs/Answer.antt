@@ -1,8 +1,7 @@
--- Document 01's numbers and values for each case of finishing's answer.
+-- The number and the values of each case of finishing's answer (REQUIREMENTS, Finishing).
 use Prim.Native.Nat.{ℕ}
 use Rattle.calculus.specs.Run.{Outcome}
-use Rattle.reading.specs.Reply.{Reply}
-use Rattle.reading.specs.Reading.{refusal}
+use Rattle.reading.specs.Reply.{Reply, passedOn}
 use Rattle.reading.specs.Answer.{answerOf as readingAnswer}
 use Rattle.finishing.specs.Finishing.{Ran}
 use Rattle.finishing.specs.declared.Admission.{Admission}
@@ -16,7 +15,7 @@ replyOf AreaTooLong = Reply.refused 1 0
 replyOf WorkTooShort = Reply.refused 2 0
 replyOf LengthTooLong = Reply.refused 3 0
 replyOf FuelTooHigh = Reply.refused 4 0
-replyOf (Unread reading) = refusal (readingAnswer reading)
+replyOf (Unread reading) = passedOn (readingAnswer reading)
 replyOf Admitted = Reply.answered tt
 
 abbrev pub outcomeOf : Declared → Outcome

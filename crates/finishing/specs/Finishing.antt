@@ -1,10 +1,9 @@
--- Finishing. Document 01: "Finishing also takes fuel: 1, 2, 3, then 4 for fuel over 1,000,000, then 5, 6, 7. Then over and over: finished
--- if the term is normal; else spent if the steps made equal the fuel; else no room if the next term is larger than the area; else one
--- step. The record that comes back holds the outcome and the count; the area holds the term reached."
+-- What finishing answers and leaves in the areas, for any call (REQUIREMENTS, Finishing).
 use Prim.Native.Nat.{ℕ}
 use mathlib.Core.List.{List}
 use lib.Dec.{ltb}
 use lib.ListN.{length, take}
+use Rattle.calculus.specs.Limits.{fuelLimit}
 use Rattle.calculus.specs.Term.{Term, size}
 use Rattle.calculus.specs.Run.{Outcome, Run, run, outcome, count, reached}
 use Rattle.reading.specs.Reply.{Reply, refuseIf}
@@ -21,7 +20,7 @@ pub data After : Type 0 where
 
 -- the term to finish, or the refusal
 abbrev pub admitted : (area : List ℕ) (len : ℕ) (work : List ℕ) (fuel : ℕ) → Reply Term
-admitted area len work fuel = refusedAreas area len work (refuseIf (ltb 1000000 fuel) 4 (termRead (take len area)))
+admitted area len work fuel = refusedAreas area len work (refuseIf (ltb fuelLimit fuel) 4 (termRead (take len area)))
 
 -- whether the call is refused
 abbrev pub admission : Reply Term → Reply Unit

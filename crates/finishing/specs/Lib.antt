@@ -1,3 +1,4 @@
 pub mod Finishing
 pub mod Answer
 pub mod Loop
+pub mod RunOf

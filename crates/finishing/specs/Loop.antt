@@ -1,16 +1,17 @@
 -- What one pass of finishing's loop asks of the areas, and what it leaves.
--- Document 01: "Then over and over: finished if the term is normal; else spent if the steps made equal the fuel; else no room if the next
--- term is larger than the area; else one step."
+-- (REQUIREMENTS, Finishing).
 use Prim.Native.Nat.{ℕ, _≤_, _<_}
 use mathlib.Core.Path.{_≡_}
-use mathlib.Core.Bool.{Bool, false, _||_}
-use mathlib.Core.List.{List, [], _∷_}
-use lib.Dec.{eqb}
+use mathlib.Core.Bool.{Bool}
+use mathlib.Core.List.{List}
+use lib.Dec.{ltb}
 use lib.ListN.{length}
+use Rattle.calculus.specs.Limits.{areaLimit}
 use Rattle.calculus.specs.Letter.{Letter, byte}
 use Rattle.calculus.specs.Term.{Term, size}
 use Rattle.calculus.specs.Order.{Next, next}
 use Rattle.calculus.specs.Run.{Run, reached}
+use Rattle.slices.specs.Find.{indexOf}
 use Rattle.reading.specs.Reply.{Reply}
 use Rattle.stepping.specs.Held.{Holds}
 use Rattle.stepping.specs.Stepping.{Stepped}
@@ -18,12 +19,11 @@ use Rattle.finishing.specs.Finishing.{Ran, recordOf}
 
 -- whether a full stop stands among the bytes
 abbrev pub hasStop : List ℕ → Bool
-hasStop [] = false
-hasStop (b ∷ bytes) = eqb b (byte Letter.stop) || hasStop bytes
+hasStop bytes = ltb (indexOf (byte Letter.stop) bytes) (length bytes)
 
 -- areas of lengths that are not refused, and a term in the first len bytes
 pub record Ready (area : List ℕ) (len : ℕ) (work : List ℕ) : Type 0 where
-  pub short : length area ≤ 16384
+  pub short : length area ≤ areaLimit
   pub room : length area ≤ length work
   pub term : Term
   pub held : Holds area len term

@@ -6,6 +6,7 @@ ghost use Prim.Native.Nat.{_≤_, _*_, min};
 ghost use lib.ListN.{length};
 ghost use Rattle.calculus.specs.Term.{Term};
 ghost use Rattle.calculus.specs.Run.{run};
+ghost use Rattle.reading.specs.Reply.{numberIn, placeIn};
 ghost use Rattle.stepping.specs.Held.{Holds};
 ghost use Rattle.stepping.specs.Answer.{answerOf};
 ghost use Rattle.finishing.specs.Finishing.{After, admitted, admission, finishingOf};
@@ -48,11 +49,39 @@ pub struct Finishing {
     pub run: Run,
 }
 
+// The number of a refusal, 0 where the call is not refused.
+pub fn number(admission: Admission) -> u64
+    ensures { λ r. ⌜ r ≡ numberIn (replyOf admission) ⌝ }
+{
+    match admission {
+        Admission::AreaTooLong => 1,
+        Admission::WorkTooShort => 2,
+        Admission::LengthTooLong => 3,
+        Admission::FuelTooHigh => 4,
+        Admission::Unread(reading) => reading::number(reading),
+        Admission::Admitted => 0,
+    }
+}
+
+// The place of a refusal, 0 where the call is not refused.
+pub fn place(admission: Admission) -> usize
+    ensures { λ r. ⌜ r ≡ placeIn (replyOf admission) ⌝ }
+{
+    match admission {
+        Admission::AreaTooLong => 0,
+        Admission::WorkTooShort => 0,
+        Admission::LengthTooLong => 0,
+        Admission::FuelTooHigh => 0,
+        Admission::Unread(reading) => reading::place(reading),
+        Admission::Admitted => 0,
+    }
+}
+
 // Whether a call is refused; nothing is written.
 pub fn admit(area: &[u8], len: usize, work: &[u8], fuel: u64) -> Admission
     ensures { λ r. ⌜ replyOf r ≡ admission (admitted (now (area .entry)) len (now (work .entry)) fuel) ⌝ }
 {
-    if 16384 < area.len() {
+    if calculus::AREA_LIMIT < area.len() {
         return Admission::AreaTooLong;
     }
     if work.len() < area.len() {
@@ -61,7 +90,7 @@ pub fn admit(area: &[u8], len: usize, work: &[u8], fuel: u64) -> Admission
     if area.len() < len {
         return Admission::LengthTooLong;
     }
-    if 1000000 < fuel {
+    if calculus::FUEL_LIMIT < fuel {
         return Admission::FuelTooHigh;
     }
     let reading = reading::read(&area[..len]);
@@ -85,14 +114,7 @@ fn needed(size: usize, whole: usize) -> usize
 fn has_stop(s: &[u8]) -> bool
     ensures { λ r. ⌜ r ≡ hasStop (now (s .entry)) ⌝ }
 {
-    let mut i = 0;
-    while i < s.len() {
-        if s[i] == 46 {
-            return true;
-        }
-        i += 1;
-    }
-    false
+    slices::find(s, calculus::letters::STOP) < s.len()
 }
 
 // The next step of the term in the first `size` bytes.

@@ -14,17 +14,21 @@ use Rattle.reading.specs.Reply.{Reply}
 use Rattle.slices.specs.Same.{same}
 use Rattle.slices.specs.Split.{lines, fields}
 use Rattle.slices.proofs.Same.{same-equal, equal-same}
-use Rattle.checking.specs.Line.{Line}
-use Rattle.checking.specs.Checking.{checkingOf}
-use Rattle.checking.specs.Accepted.{claimOf, Claims}
-use Rattle.checking.proofs.GoodLines.{judgementFields, restFields, fields-body}
-use Rattle.checking.proofs.Files.{bodies, lines-file, accepted-exactly}
-use Rattle.matching.specs.Matching.{lastLine, fieldBehind, contextField, typeField, sameClaim, afterBoth, matchingOf}
+use Rattle.derivation_files.specs.Line.{Line}
+use Rattle.derivation_files.specs.Checking.{checkingOf}
+use Rattle.derivation_files.specs.Accepted.{claimOf, Claims}
+use Rattle.derivation_files.proofs.GoodLines.{judgementFields, restFields, fields-body}
+use Rattle.derivation_files.proofs.Bodies.{bodies, lines-file}
+use Rattle.derivation_files.proofs.Files.{accepted-exactly}
+use Rattle.checking.specs.Claim.{lastLine, fieldBehind}
+use Rattle.matching.specs.Matching.{contextField, typeField, sameClaim, afterBoth, matchingOf}
 
 -- ---- the claim of one file
 
 -- the last line's fields begin with those of the claim
-last-fields : (ls : List Line) (j : Judgement) → claimOf ls ≡ some j → (rest : List (List ℕ)) × (fields (lastLine (bodies ls)) ≡ judgementFields j ++ rest)
+last-fields :
+    (ls : List Line) (j : Judgement) → claimOf ls ≡ some j →
+    (rest : List (List ℕ)) × (fields (lastLine (bodies ls)) ≡ judgementFields j ++ rest)
 last-fields [] j e = absurd (Option·none-ne-some _ e)
 last-fields (l ∷ []) j e =
     let claim : l .judgement ≡ j = cc in
@@ -38,7 +42,8 @@ pub claim-texts :
 claim-texts {file} {G} {t} {W} c =
     let (rest, found) = last-fields (c .accepted .listed) (Judgement.judge G t W) (c .claim) in
     let cut : fields (lastLine (lines file)) ≡ judgementFields (Judgement.judge G t W) ++ rest =
-    ap (λ (s : List ℕ). fields (lastLine (lines s))) (c .accepted .written) ∙ ap (λ (ps : List (List ℕ)). fields (lastLine ps)) (lines-file (c .accepted .listed)) ∙ found in
+    ap (λ (s : List ℕ). fields (lastLine (lines s))) (c .accepted .written)
+    ∙ ap (λ (ps : List (List ℕ)). fields (lastLine ps)) (lines-file (c .accepted .listed)) ∙ found in
     (ap (fieldBehind 0) cut, ap (fieldBehind 2) cut)
 
 -- a file with a claim is not refused
@@ -54,14 +59,21 @@ both-true : (a b : Bool) → (a && b) ≡ true → (a ≡ true) × (b ≡ true)
 both-true true b e = (refl, e)
 both-true false b e = absurd (false≢true e)
 
-module _ {first second : List ℕ} {G D : Context} {t u : Term} {W X : Ty} (c : Claims first (Judgement.judge G t W)) (d : Claims second (Judgement.judge D u X)) where
+module _
+    {first second : List ℕ}
+    {G D : Context}
+    {t u : Term}
+    {W X : Ty}
+    (c : Claims first (Judgement.judge G t W))
+    (d : Claims second (Judgement.judge D u X)) where
   -- the answer tells whether the claims' texts are the same
   claims-compared : matchingOf first second ≡ Reply.answered (same (contextText G) (contextText D) && same (tyText W) (tyText X))
   unfolding matchingOf
   claims-compared =
       let (context₁, type₁) = claim-texts c in
       let (context₂, type₂) = claim-texts d in
-      ap₂ (λ (r s : Reply ℕ). afterBoth r s (sameClaim (lastLine (lines first)) (lastLine (lines second)))) (claim-answered c) (claim-answered d)
+      ap₂ (λ (r s : Reply ℕ). afterBoth r s (sameClaim (lastLine (lines first)) (lastLine (lines second)))) (claim-answered c)
+      (claim-answered d)
       ∙ ap Reply.answered (ap₂ _&&_ (ap₂ same context₁ context₂) (ap₂ same type₁ type₂))
 
   -- two accepted files match exactly when their claims have the same context and the same type
@@ -70,10 +82,15 @@ module _ {first second : List ℕ} {G D : Context} {t u : Term} {W X : Ty} (c : 
     where
       there : matchingOf first second ≡ Reply.answered true → (G ≡ D) × (W ≡ X)
       there e =
-          let (contexts, types) = both-true (same (contextText G) (contextText D)) (same (tyText W) (tyText X)) (answered-same (sym claims-compared ∙ e)) in
-          (context-injective G D (same-equal (contextText G) (contextText D) contexts), ty-injective W X (same-equal (tyText W) (tyText X) types))
+          let (contexts, types) = both-true (same (contextText G) (contextText D)) (same (tyText W) (tyText X))
+          (answered-same (sym claims-compared ∙ e)) in (
+            context-injective G D (same-equal (contextText G) (contextText D) contexts),
+            ty-injective W X (same-equal (tyText W) (tyText X) types),
+          )
 
       back : (G ≡ D) × (W ≡ X) → matchingOf first second ≡ Reply.answered true
       back e =
           claims-compared
-          ∙ ap Reply.answered (ap₂ _&&_ (equal-same (contextText G) (contextText D) (ap contextText (e .0))) (equal-same (tyText W) (tyText X) (ap tyText (e .1))))
+          ∙ ap Reply.answered
+          (ap₂ _&&_ (equal-same (contextText G) (contextText D) (ap contextText (e .0)))
+          (equal-same (tyText W) (tyText X) (ap tyText (e .1))))

@@ -1,4 +1,4 @@
 -- The theorems about matching.
-pub mod Scan
 pub mod Verdict
 pub mod Claims
+pub mod Calls

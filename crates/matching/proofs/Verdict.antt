@@ -1,53 +1,24 @@
--- From what checking answered of both files, and the two last lines, to the reply: each way out of `match_claims` as one law.
+-- From what checking answered of both files, and the texts of their claims, to the reply: each way out of `match_claims` as one law.
 -- Assumes nothing.
 use Prim.Native.Nat.{ℕ}
 use mathlib.Core.Path.{_≡_, refl, sym, _∙_, ap, ap₂}
-use mathlib.Core.Bool.{Bool, true, false, _&&_}
+use mathlib.Core.Bool.{Bool}
 use mathlib.Core.List.{List, [], _∷_}
-use types.Run.{OneOf, miss}
+use types.Run.{OneOf}
 use denote.Enum.Declared.{tagOf}
-use Rattle.reading.specs.Reply.{Reply}
-use Rattle.slices.specs.Same.{same}
+use Rattle.reading.specs.Reply.{Reply, passedOn}
 use Rattle.slices.specs.Split.{lines}
-use Rattle.checking.specs.Checking.{checkingOf}
+use Rattle.derivation_files.specs.Checking.{checkingOf}
 use Rattle.checking.specs.Answer as checking
 use Rattle.checking.specs.declared.Checking.{Checking}
-use Rattle.checking.specs.declared.Checking.the-variants.{FileTooLong, FileEmpty, NoLineEnd, TooManyLines, NotSixFields, Malformed, UnknownRule, BadPremise, NoInstance, Accepted}
+use Rattle.checking.specs.declared.Checking.the-variants.{Accepted}
 use Rattle.checking.proofs.Checking.{the-type}
-use Rattle.matching.specs.Matching.{lastLine, contextField, typeField, sameClaim, afterBoth, matchingOf}
-use Rattle.matching.specs.Answer.{refusalOf}
-
--- ---- two lines
-
-module _ (first second : List ℕ) {a b : List ℕ} {r : Bool} (is : r ≡ same a b) (left : a ≡ contextField first) (right : b ≡ contextField second) where
-  contexts : r ≡ same (contextField first) (contextField second)
-  contexts = is ∙ ap₂ same left right
-
-  -- where the contexts are the same the types decide
-  pub claim-types : r ≡ true → {x y : List ℕ} {s : Bool} → s ≡ same x y → x ≡ typeField first → y ≡ typeField second → s ≡ sameClaim first second
-  claim-types e types-are p q =
-      types-are ∙ ap₂ same p q ∙ sym (ap (λ (t : Bool). t && same (typeField first) (typeField second)) (sym contexts ∙ e))
-
-  -- else the claims are not the same
-  pub claim-differs : r ≡ false → r ≡ sameClaim first second
-  claim-differs e = e ∙ sym (ap (λ (t : Bool). t && same (typeField first) (typeField second)) (sym contexts ∙ e))
+use Rattle.checking.proofs.Refused.{refused-reply}
+use Rattle.fields.specs.Fields.{Texts}
+use Rattle.checking.specs.Claim.{lastLine, claimTexts}
+use Rattle.matching.specs.Matching.{sameClaim, sameTexts, afterBoth, matchingOf}
 
 -- ---- two files
-
--- each case but the last is a refusal
-refused-reply :
-    (found : Checking) → OneOf (0 ∷ 1 ∷ 2 ∷ 3 ∷ 4 ∷ 5 ∷ 6 ∷ 7 ∷ 8 ∷ []) (tagOf the-type found) →
-    (number : ℕ) × (line : ℕ) × (checking.answerOf found ≡ Reply.refused number line)
-refused-reply FileTooLong k = (10, 0, refl)
-refused-reply FileEmpty k = (11, 0, refl)
-refused-reply NoLineEnd k = (12, 0, refl)
-refused-reply TooManyLines k = (13, 0, refl)
-refused-reply (NotSixFields line) k = (14, line, refl)
-refused-reply (Malformed line) k = (15, line, refl)
-refused-reply (UnknownRule line) k = (16, line, refl)
-refused-reply (BadPremise line) k = (17, line, refl)
-refused-reply (NoInstance line) k = (18, line, refl)
-refused-reply (Accepted n) k = absurd (miss (0 ∷ 1 ∷ 2 ∷ 3 ∷ 4 ∷ 5 ∷ 6 ∷ 7 ∷ 8 ∷ []) 9 tt k)
 
 module _ (first second : List ℕ) where
   abbrev verdict : Bool
@@ -55,12 +26,13 @@ module _ (first second : List ℕ) where
 
   -- the first file is refused
   pub first-refused :
-      (found : Checking) → checking.answerOf found ≡ checkingOf first → OneOf (0 ∷ 1 ∷ 2 ∷ 3 ∷ 4 ∷ 5 ∷ 6 ∷ 7 ∷ 8 ∷ []) (tagOf the-type found) →
-      refusalOf (checking.answerOf found) ≡ matchingOf first second
+      (found : Checking) → checking.answerOf found ≡ checkingOf first →
+      OneOf (0 ∷ 1 ∷ 2 ∷ 3 ∷ 4 ∷ 5 ∷ 6 ∷ 7 ∷ 8 ∷ []) (tagOf the-type found) →
+      passedOn (checking.answerOf found) ≡ matchingOf first second
   unfolding matchingOf
   first-refused found said k =
       let (number, line, e) = refused-reply found k in
-      ap refusalOf e ∙ sym (ap (λ (r : Reply ℕ). afterBoth r (checkingOf second) verdict) (sym said ∙ e))
+      ap passedOn e ∙ sym (ap (λ (r : Reply ℕ). afterBoth r (checkingOf second) verdict) (sym said ∙ e))
 
   module _ {found : Checking} {n : ℕ} (said : checking.answerOf found ≡ checkingOf first) (good : found ≡ Accepted n) where
     first-answered : checkingOf first ≡ Reply.answered n
@@ -68,19 +40,23 @@ module _ (first second : List ℕ) where
 
     -- the first is not, and the second is
     pub second-refused :
-        (other : Checking) → checking.answerOf other ≡ checkingOf second → OneOf (0 ∷ 1 ∷ 2 ∷ 3 ∷ 4 ∷ 5 ∷ 6 ∷ 7 ∷ 8 ∷ []) (tagOf the-type other) →
-        refusalOf (checking.answerOf other) ≡ matchingOf first second
+        (other : Checking) → checking.answerOf other ≡ checkingOf second →
+        OneOf (0 ∷ 1 ∷ 2 ∷ 3 ∷ 4 ∷ 5 ∷ 6 ∷ 7 ∷ 8 ∷ []) (tagOf the-type other) →
+        passedOn (checking.answerOf other) ≡ matchingOf first second
     unfolding matchingOf
     second-refused other is k =
         let (number, line, e) = refused-reply other k in
-        ap refusalOf e ∙ sym (ap₂ (λ (r s : Reply ℕ). afterBoth r s verdict) first-answered (sym is ∙ e))
+        ap passedOn e ∙ sym (ap₂ (λ (r s : Reply ℕ). afterBoth r s verdict) first-answered (sym is ∙ e))
 
     -- neither is
     pub both-answered :
-        {other : Checking} {m : ℕ} → checking.answerOf other ≡ checkingOf second → other ≡ Accepted m →
-        {one two : List ℕ} {r : Bool} → one ≡ lastLine (lines first) → two ≡ lastLine (lines second) → r ≡ sameClaim one two →
+        {other : Checking} {m : ℕ} → checking.answerOf other ≡ checkingOf second → other ≡ Accepted m → (x y : Texts) (r : Bool) →
+        x ≡ claimTexts (checkingOf first) first → y ≡ claimTexts (checkingOf second) second → r ≡ sameTexts x y →
         Reply.answered r ≡ matchingOf first second
     unfolding matchingOf
-    both-answered is well p q e =
-        ap Reply.answered (e ∙ ap₂ sameClaim p q)
-        ∙ sym (ap₂ (λ (s t : Reply ℕ). afterBoth s t verdict) first-answered (sym is ∙ ap checking.answerOf well))
+    both-answered {other} {m} is well x y r p q e =
+        let second-answered : checkingOf second ≡ Reply.answered m = sym is ∙ ap checking.answerOf well in
+        ap Reply.answered
+        (e ∙ ap₂ sameTexts (p ∙ ap (λ (s : Reply ℕ). claimTexts s first) first-answered)
+        (q ∙ ap (λ (s : Reply ℕ). claimTexts s second) second-answered))
+        ∙ sym (ap₂ (λ (s t : Reply ℕ). afterBoth s t verdict) first-answered second-answered)

@@ -1,24 +1,14 @@
--- Document 01: "Matching claims takes two files: refusals of checking for the first, then the second. They match when the context and
--- the type of the last lines are equal byte for byte."
-use Prim.Native.Nat.{ℕ, zero, suc}
+-- Whether the claims of two files match (REQUIREMENTS, Matching): what checking refuses of the first, else of the second; else whether the
+-- contexts and the types of their last lines are the same bytes.
+use Prim.Native.Nat.{ℕ}
 use mathlib.Core.Bool.{Bool, _&&_}
-use mathlib.Core.List.{List, [], _∷_}
+use mathlib.Core.List.{List}
 use Rattle.reading.specs.Reply.{Reply}
 use Rattle.slices.specs.Same.{same}
 use Rattle.slices.specs.Split.{lines, fields}
-use Rattle.checking.specs.Checking.{checkingOf}
-
--- the last line, empty where there is none
-abbrev pub lastLine : List (List ℕ) → List ℕ
-lastLine [] = []
-lastLine (line ∷ []) = line
-lastLine (line ∷ next ∷ rest) = lastLine (next ∷ rest)
-
--- the field behind that many others, empty where there is none
-abbrev pub fieldBehind : ℕ → List (List ℕ) → List ℕ
-fieldBehind n [] = []
-fieldBehind zero (field ∷ rest) = field
-fieldBehind (suc n) (field ∷ rest) = fieldBehind n rest
+use Rattle.derivation_files.specs.Checking.{checkingOf}
+use Rattle.fields.specs.Fields.{Texts}
+use Rattle.checking.specs.Claim.{lastLine, fieldBehind}
 
 -- the first field of a line
 abbrev pub contextField : List ℕ → List ℕ
@@ -31,6 +21,10 @@ typeField line = fieldBehind 2 (fields line)
 -- the contexts and the types of two lines are equal byte for byte
 abbrev pub sameClaim : (first second : List ℕ) → Bool
 sameClaim first second = same (contextField first) (contextField second) && same (typeField first) (typeField second)
+
+-- the same of the texts of two claims
+abbrev pub sameTexts : (first second : Texts) → Bool
+sameTexts first second = same (first .context) (second .context) && same (first .type) (second .type)
 
 -- the refusal of the first, else that of the second, else the verdict
 abbrev pub afterBoth : (first second : Reply ℕ) → Bool → Reply Bool

@@ -1,45 +1,46 @@
--- The demands hold: each by the cases of a call, which `Calls` of each operation's crate has. Assumes nothing.
+-- The demands hold: each by the cases of a call, which `Calls` of each operation's crate has, and by what holds of every run. Assumes nothing.
 use Prim.Native.Nat.{ℕ, _≤_, _<_}
 use mathlib.Core.Path.{_≡_, refl, sym, _∙_, ap, ap₂, subst, subst₂}
-use mathlib.Core.Bool.{Bool}
 use mathlib.Core.Logic.{_↔_, _⊎_, inl, inr, ⊎-elim}
-use mathlib.Core.List.{List, [], _∷_, List·Memᴰ}
+use mathlib.Core.List.{List, [], _∷_}
 use lib.ListN.{length, take}
 use lib.Seq.{take-at}
 use native.Mathlib.Omega.{arith}
-use mathlib.Core.Option.{some}
 use Rattle.calculus.specs.Typing.{Judgement}
 use Rattle.calculus.specs.Term.{Term, text, size, Normal}
 use Rattle.calculus.specs.Order.{Step}
 use Rattle.calculus.specs.Turning.{Turn}
-use Rattle.calculus.specs.Run.{Outcome, Run, run, outcome, reached}
+use Rattle.calculus.specs.Run.{Outcome, Run, run, reached}
 use Rattle.calculus.proofs.PrefixCode.{length-text}
-use Rattle.calculus.proofs.Runs.{run-runs, runs-run}
-use Rattle.calculus.proofs.Results.{results-equal, terms-keep-type}
 use Rattle.reading.specs.Reply.{Reply}
+use Rattle.reading.specs.Reading.{readingOf, ReadsAs}
+use Rattle.reading.proofs.Numbers.{reading-refused}
+use Rattle.reading.proofs.Whole.{reads-as, reads-as-only}
 use Rattle.stepping.specs.Areas.{holding, cleared}
 use Rattle.stepping.specs.Held.{Holds}
 use Rattle.stepping.specs.Stepping as stepping
 use Rattle.stepping.proofs.Calls as step
 use Rattle.finishing.specs.Finishing as finishing
 use Rattle.finishing.proofs.Calls as finish
+use Rattle.finishing.proofs.RunOf.{run-of, run-finishes, results-exactly, run-keeps}
 use Rattle.comparing.specs.Comparing as comparing
 use Rattle.comparing.proofs.Calls as compare
-use Rattle.reading.proofs.Numbers.{reading-refused}
-use Rattle.checking.specs.Line.{Line}
-use Rattle.slices.specs.Split.{lines}
-use Rattle.checking.specs.Checking.{checkingOf}
-use Rattle.checking.proofs.Listed.{checking-refused}
-use Rattle.matching.specs.Matching.{lastLine, sameClaim, afterBoth, matchingOf}
-use Rattle.checking.specs.Accepted.{claimOf}
-use Rattle.checking.proofs.Files.{accepted-exactly, complete, claim-unique, accepted-derivable, derivable-listed}
-use Rattle.promises.specs.Demands.{Refusals, SteppedTo, RanTo, Steps, Results, Files, Types}
+use Rattle.derivation_files.specs.Checking.{checkingOf}
+use Rattle.derivation_files.specs.Checks.{ChecksAs}
+use Rattle.derivation_files.proofs.Listed.{checking-refused}
+use Rattle.derivation_files.proofs.Files.{accepted-exactly, claim-unique, claimed, accepted-derivable}
+use Rattle.derivation_files.proofs.Checks.{checks-as, checks-as-only}
+use Rattle.derivation_files.proofs.LaidOut.{laid-out}
+use Rattle.matching.proofs.Claims.{match-exactly}
+use Rattle.matching.proofs.Calls.{match-refused}
+use Rattle.codes.proofs.InC.{in-c}
+use Rattle.promises.specs.Demands.{StepRefuses, FinishRefuses, SteppedTo, RanTo, ComparedTo, Demands}
 
 step-refused :
     {area work area′ work′ : List ℕ} {len number place : ℕ} →
     step.Call area len work (stepping.After.after (Reply.refused number place) area′ work′) →
-    List·Memᴰ number (1 ∷ 2 ∷ 3 ∷ 5 ∷ 6 ∷ 7 ∷ []) × (area′ ≡ area) × (work′ ≡ work)
-step-refused (step.Call.refused m) = (m .listed, refl, refl)
+    StepRefuses len number place × (area′ ≡ area) × (work′ ≡ work)
+step-refused (step.Call.refused m) = (m, refl, refl)
 
 step-stepped :
     {area work area′ work′ : List ℕ} {len rule s : ℕ} →
@@ -62,8 +63,8 @@ step-no-room (step.Call.made t areas held (step.Answers.no-room {rule = rule} {u
 finish-refused :
     {area work area′ work′ : List ℕ} {len fuel number place : ℕ} {r : finishing.Ran} →
     finish.Call area len work fuel (finishing.After.after (Reply.refused number place) r area′ work′) →
-    List·Memᴰ number (1 ∷ 2 ∷ 3 ∷ 4 ∷ 5 ∷ 6 ∷ 7 ∷ []) × (area′ ≡ area) × (work′ ≡ work)
-finish-refused (finish.Call.refused m) = (m .listed, refl, refl)
+    FinishRefuses len number place × (area′ ≡ area) × (work′ ≡ work)
+finish-refused (finish.Call.refused m) = (m, refl, refl)
 
 finish-ran :
     {area work area′ work′ : List ℕ} {len fuel n s : ℕ} {o : Outcome} →
@@ -74,7 +75,7 @@ finish-ran {area = area} {fuel = fuel} (finish.Call.made t admits) =
       start = t;
       run = run fuel (length area) t;
       held = admits .held;
-      runs = run-runs fuel (length area) t;
+      run-of = run-of (admits .admits);
       ends = refl;
       counted = refl;
       sized = refl;
@@ -82,116 +83,97 @@ finish-ran {area = area} {fuel = fuel} (finish.Call.made t admits) =
       work-cleared = refl;
     }
 
+compare-ran :
+    {first second work first′ second′ work′ : List ℕ} {len₁ len₂ fuel : ℕ} {c : comparing.Compared} →
+    compare.Call first len₁ second len₂ work fuel (comparing.After.after (Reply.answered c) first′ second′ work′) →
+    ComparedTo first len₁ second len₂ work fuel c first′ second′ work′
+compare-ran {first = first} {second = second} {fuel = fuel} (compare.Call.made t u admits₁ admits₂) =
+    record {
+      start₁ = t;
+      start₂ = u;
+      run₁ = run fuel (length first) t;
+      run₂ = run fuel (length second) u;
+      held₁ = admits₁ .held;
+      held₂ = admits₂ .held;
+      run-of₁ = run-of (admits₁ .admits);
+      run-of₂ = run-of (admits₂ .admits);
+      verdict = refl;
+      first-holds = refl;
+      second-holds = refl;
+      work-cleared = refl;
+    }
+
 compare-refused :
     {first second work first′ second′ work′ : List ℕ} {len₁ len₂ fuel number place : ℕ} →
     compare.Call first len₁ second len₂ work fuel (comparing.After.after (Reply.refused number place) first′ second′ work′) →
-    List·Memᴰ number (1 ∷ 2 ∷ 3 ∷ 4 ∷ 5 ∷ 6 ∷ 7 ∷ []) × (first′ ≡ first) × (second′ ≡ second) × (work′ ≡ work)
-compare-refused (compare.Call.refused m) = (m .listed, refl, refl, refl)
-
--- a refusal of matching is checking's, of the first file or of the second
-match-refused :
-    (first second : List ℕ) (number line : ℕ) →
-    matchingOf first second ≡ Reply.refused number line → (checkingOf first ≡ Reply.refused number line) ⊎ (checkingOf second ≡ Reply.refused number line)
-unfolding matchingOf
-match-refused first second number line = go (checkingOf first) (checkingOf second) (sameClaim (lastLine (lines first)) (lastLine (lines second)))
-  where
-    go :
-        (x y : Reply ℕ) (verdict : Bool) → afterBoth x y verdict ≡ Reply.refused number line →
-        (x ≡ Reply.refused number line) ⊎ (y ≡ Reply.refused number line)
-    go (Reply.refused n l) y verdict e =
-        let same-number : n ≡ number = cc in
-        let same-line : l ≡ line = cc in
-        inl (ap₂ Reply.refused same-number same-line)
-    go (Reply.answered m) (Reply.refused n l) verdict e =
-        let same-number : n ≡ number = cc in
-        let same-line : l ≡ line = cc in
-        inr (ap₂ Reply.refused same-number same-line)
-    go (Reply.answered m) (Reply.answered k) verdict e = let z : _≡_ {A = ℕ} 0 1 = cc in absurd (omega arith)
-
--- Demand 1
-pub refusals : Refusals
-refusals =
-    record {
-      of-stepping = λ area work area′ work′ len number place e. step-refused (subst (step.Call area len work) e (step.call area len work));
-      of-finishing = λ area work area′ work′ len fuel number place r e. finish-refused (subst (finish.Call area len work fuel) e (finish.call area len work fuel));
-      of-comparing =
-          λ first second work first′ second′ work′ len₁ len₂ fuel number place e.
-          compare-refused (subst (compare.Call first len₁ second len₂ work fuel) e (compare.call first len₁ second len₂ work fuel));
-      of-reading = λ bytes number place e. let found = reading-refused bytes number place e in (found .listed, found .within);
-      of-checking = λ file number line e. let found = checking-refused file number line e in (found .listed, found .within);
-      of-matching =
-          λ first second number line e.
-          let found = ⊎-elim (checking-refused first number line) (checking-refused second number line) (match-refused first second number line e) in
-          (found .listed, found .within);
-    }
-
--- Demand 2, first half
-pub steps : Steps
-steps =
-    record {
-      stepped = λ area work area′ work′ len rule s e. step-stepped (subst (step.Call area len work) e (step.call area len work));
-      normal = λ area work area′ work′ len s e. step-normal (subst (step.Call area len work) e (step.call area len work));
-      no-room = λ area work area′ work′ len s e. step-no-room (subst (step.Call area len work) e (step.call area len work));
-      ran = λ area work area′ work′ len fuel o n s e. finish-ran (subst (finish.Call area len work fuel) e (finish.call area len work fuel));
-    }
+    (FinishRefuses len₁ number place ⊎ FinishRefuses len₂ number place) × (first′ ≡ first) × (second′ ≡ second) × (work′ ≡ work)
+compare-refused (compare.Call.first-refused m) = (inl m, refl, refl, refl)
+compare-refused (compare.Call.second-refused m) = (inr m, refl, refl, refl)
 
 -- the area of a run that is not refused holds the text of the term reached at its start
-reached-text : {area work area′ work′ : List ℕ} {len fuel n s : ℕ} {o : Outcome} (r : RanTo area len work fuel o n s area′ work′) → take s area′ ≡ text (reached (r .start) (r .run))
-reached-text {s = s} r = ap (take s) (r .area-holds) ∙ take-at (text (reached (r .start) (r .run))) _ s (length-text (reached (r .start) (r .run)) ∙ r .sized)
-
--- the text that a run reaches is that of the definition's run
-run-text :
+reached-text :
     {area work area′ work′ : List ℕ} {len fuel n s : ℕ} {o : Outcome} (r : RanTo area len work fuel o n s area′ work′) →
-    text (reached (r .start) (run fuel (length area) (r .start))) ≡ take s area′
-run-text r = ap (λ (x : Run). text (reached (r .start) x)) (runs-run (r .runs)) ∙ sym (reached-text r)
+    take s area′ ≡ text (reached (r .start) (r .run))
+reached-text {s = s} r =
+    let left = reached (r .start) (r .run) in
+    ap (take s) (r .area-holds) ∙ take-at (text left) _ s (length-text left ∙ r .sized)
 
 -- the results of two finished runs are equal exactly when their first terms turn into each other
 results-of :
     {area₁ work₁ area₁′ work₁′ area₂ work₂ area₂′ work₂′ : List ℕ} {len₁ fuel₁ n₁ s₁ len₂ fuel₂ n₂ s₂ : ℕ}
     (r₁ : RanTo area₁ len₁ work₁ fuel₁ Outcome.finished n₁ s₁ area₁′ work₁′) (r₂ : RanTo area₂ len₂ work₂ fuel₂ Outcome.finished n₂ s₂ area₂′ work₂′) →
     (take s₁ area₁′ ≡ take s₂ area₂′) ↔ Turn (r₁ .start) (r₂ .start)
-results-of {area₁ = area₁} {area₂ = area₂} {fuel₁ = fuel₁} {fuel₂ = fuel₂} r₁ r₂ =
-    let exactly =
-    results-equal fuel₁ (length area₁) fuel₂ (length area₂) (r₁ .start) (r₂ .start) (ap outcome (runs-run (r₁ .runs)) ∙ r₁ .ends)
-    (ap outcome (runs-run (r₂ .runs)) ∙ r₂ .ends) in
-    (λ e. exactly .0 (run-text r₁ ∙ e ∙ sym (run-text r₂)), λ turns. sym (run-text r₁) ∙ exactly .1 turns ∙ run-text r₂)
+results-of r₁ r₂ =
+    let exactly = results-exactly (r₁ .run-of) (r₂ .run-of) (r₁ .ends) (r₂ .ends) in
+    (λ e. exactly .0 (sym (reached-text r₁) ∙ e ∙ reached-text r₂), λ turns. reached-text r₁ ∙ exactly .1 turns ∙ sym (reached-text r₂))
 
--- Demand 3, first half
-pub results : Results
-results =
+-- a finished call of finishing ran
+ran-of :
+    (area work area′ work′ : List ℕ) (len fuel : ℕ) (o : Outcome) (n s : ℕ) →
+    finishing.finishingOf area len work fuel ≡ finishing.After.after (Reply.answered tt) (finishing.Ran.ran o n s) area′ work′ →
+    RanTo area len work fuel o n s area′ work′
+ran-of area work area′ work′ len fuel o n s e = finish-ran (subst (finish.Call area len work fuel) e (finish.call area len work fuel))
+
+pub demands : Demands
+demands =
     record {
+      reading-refuses = reading-refused;
+      stepping-refuses = λ area work area′ work′ len number place e. step-refused (subst (step.Call area len work) e (step.call area len work));
+      finishing-refuses =
+          λ area work area′ work′ len fuel number place r e. finish-refused (subst (finish.Call area len work fuel) e (finish.call area len work fuel));
+      comparing-refuses =
+          λ first second work first′ second′ work′ len₁ len₂ fuel number place e.
+          compare-refused (subst (compare.Call first len₁ second len₂ work fuel) e (compare.call first len₁ second len₂ work fuel));
+      checking-refuses = checking-refused;
+      matching-refuses =
+          λ first second number line e.
+          ⊎-elim (λ f. inl (checking-refused first number line f)) (λ f. inr (checking-refused second number line f))
+          (match-refused first second number line e);
+      in-c = in-c;
+      reads = λ bytes reply. (λ e. subst (ReadsAs bytes) e (reads-as bytes), reads-as-only);
+      stepped = λ area work area′ work′ len rule s e. step-stepped (subst (step.Call area len work) e (step.call area len work));
+      normal = λ area work area′ work′ len s e. step-normal (subst (step.Call area len work) e (step.call area len work));
+      no-room = λ area work area′ work′ len s e. step-no-room (subst (step.Call area len work) e (step.call area len work));
+      ran = ran-of;
+      compared =
+          λ first second work first′ second′ work′ len₁ len₂ fuel c e.
+          compare-ran (subst (compare.Call first len₁ second len₂ work fuel) e (compare.call first len₁ second len₂ work fuel));
+      run-finishes = λ area work len fuel t r. run-finishes;
+      checks = λ file reply. (λ e. subst (ChecksAs file) e (checks-as file), λ c. sym (checks-as-only file reply c));
+      accepted-exactly = accepted-exactly;
+      claimed = λ file n. claimed;
+      one-claim = λ file j k c d. claim-unique c d;
+      claim-derivable = λ file j claims. accepted-derivable claims;
+      laid-out = λ j earlier. laid-out;
+      matched = λ first second G D t u W X. match-exactly;
       equal-exactly =
           λ area₁ work₁ area₁′ work₁′ area₂ work₂ area₂′ work₂′ len₁ fuel₁ n₁ s₁ len₂ fuel₂ n₂ s₂ t u held₁ held₂ e₁ e₂.
-          let r₁ = steps .ran area₁ work₁ area₁′ work₁′ len₁ fuel₁ Outcome.finished n₁ s₁ e₁ in
-          let r₂ = steps .ran area₂ work₂ area₂′ work₂′ len₂ fuel₂ Outcome.finished n₂ s₂ e₂ in
-          subst₂ (λ (x y : Term). (take s₁ area₁′ ≡ take s₂ area₂′) ↔ Turn x y) (step.held-unique area₁ len₁ (r₁ .start) t (r₁ .held) held₁) (step.held-unique area₂ len₂ (r₂ .start) u (r₂ .held) held₂)
+          let r₁ = ran-of area₁ work₁ area₁′ work₁′ len₁ fuel₁ Outcome.finished n₁ s₁ e₁ in
+          let r₂ = ran-of area₂ work₂ area₂′ work₂′ len₂ fuel₂ Outcome.finished n₂ s₂ e₂ in
+          subst₂ (λ (x y : Term). (take s₁ area₁′ ≡ take s₂ area₂′) ↔ Turn x y)
+          (step.held-unique area₁ len₁ (r₁ .start) t (r₁ .held) held₁)
+          (step.held-unique area₂ len₂ (r₂ .start) u (r₂ .held) held₂)
           (results-of r₁ r₂);
-    }
-
--- a list of lines that has a claim is not empty
-claim-some : (ls : List Line) (j : Judgement) → claimOf ls ≡ some j → 1 ≤ length ls
-claim-some [] j e = let z : _≡_ {A = ℕ} 0 1 = cc in absurd (omega arith)
-claim-some (l ∷ ls) j e = omega arith
-
--- Demand 2, second half
-pub files : Files
-files =
-    record {
-      accepted-exactly = accepted-exactly;
-      claim-derivable = λ file j claims. accepted-derivable claims;
-      one-claim = λ file j k c d. claim-unique c d;
-      fitting-accepted =
-          λ ls j follow e few short.
-          let (checked, claims) = complete ls follow (claim-some ls j e) few short in
-          (checked, claims j e);
-      laid-out = derivable-listed;
-    }
-
--- Demand 3, second half
-pub types : Types
-types =
-    record {
-      kept =
-          λ file G t W area work area′ work′ len fuel n s o claims held e u m.
-          terms-keep-type fuel (length area) t u G W m (accepted-derivable claims);
+      results-exactly = λ area₁ work₁ area₂ work₂ len₁ fuel₁ len₂ fuel₂ t u r s. results-exactly;
+      kept = λ file G t W area work len fuel r claims run-of. run-keeps G W run-of (accepted-derivable claims);
     }

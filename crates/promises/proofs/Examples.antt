@@ -1,4 +1,4 @@
--- The operations' definitions answer each of the twelve rows as document 01 says, by one computation. Assumes nothing.
+-- The operations' definitions answer each of the twelve rows as the row says, by one computation. Assumes nothing.
 use mathlib.Core.Path.{_≡_, refl}
 use mathlib.Core.List.{map}
 use Rattle.calculus.specs.Letter.{letterOf}
@@ -9,8 +9,8 @@ use Rattle.types.specs.Signs.{signOf, signsOf}
 use Rattle.types.specs.Parse.{typeOf, contextOf}
 use Rattle.reading.specs.Reading.{readingOf, termRead}
 use Rattle.finishing.specs.Finishing.{finishingOf}
-use Rattle.checking.specs.Line.{nameOf, premiseOf}
-use Rattle.checking.specs.Checking.{checkingOf}
+use Rattle.derivation_files.specs.Line.{nameOf, premiseOf}
+use Rattle.derivation_files.specs.Checking.{checkingOf}
 use Rattle.promises.specs.Examples.{rows, made, stated}
 
 pub rows-hold : map made rows ≡ map stated rows

@@ -1,57 +1,52 @@
--- The three demands, stated over the definitions that the public operations promise to equal. proofs/Demands.antt proves them.
-use Prim.Native.Nat.{ℕ, _≤_, _<_}
+-- The three demands (REQUIREMENTS, Demands), stated over the definitions that the public operations promise to equal, and over the relations
+-- that those definitions are shown to agree with. `demands` of proofs/Demands.antt is the proof.
+-- That a call ends, does nothing undefined, and that its reply and every lent byte are those of these definitions, for every input, is what the
+-- contract of each operation says; none has a `requires`.
+use Prim.Native.Nat.{ℕ, _≤_, _<_, min}
 use mathlib.Core.Path.{_≡_}
-use mathlib.Core.Logic.{_↔_}
+use mathlib.Core.Bool.{true}
+use mathlib.Core.Logic.{_↔_, _⊎_}
 use mathlib.Core.List.{List, [], _∷_, List·Memᴰ}
-use mathlib.Core.Option.{some}
 use lib.ListN.{length, take}
+use Rattle.calculus.specs.Limits.{areaLimit, fileLimit, lineLimit}
 use Rattle.calculus.specs.Term.{Term, text, size, Normal}
 use Rattle.calculus.specs.Order.{Step}
 use Rattle.calculus.specs.Turning.{Turn}
-use Rattle.calculus.specs.Run.{Outcome, Run, Runs, run, outcome, count, terms, reached}
+use Rattle.calculus.specs.Run.{Outcome, Run, outcome, count, terms, reached}
 use Rattle.calculus.specs.Types.{Context, Ty}
 use Rattle.calculus.specs.Typing.{Judgement}
-use Rattle.calculus.specs.Derivation.{Derivable}
-use Rattle.reading.specs.Reply.{Reply}
-use Rattle.reading.specs.Reading.{readingOf}
+use Rattle.calculus.specs.Derivation.{Derivation, Derivable}
+use Rattle.reading.specs.Reply.{Reply, Refuses}
+use Rattle.reading.specs.Reading.{readingOf, ReadsAs}
+use Rattle.slices.specs.Split.{lines}
 use Rattle.stepping.specs.Areas.{holding, cleared}
 use Rattle.stepping.specs.Held.{Holds}
 use Rattle.stepping.specs.Stepping as stepping
 use Rattle.finishing.specs.Finishing as finishing
+use Rattle.finishing.specs.RunOf.{RunOf}
 use Rattle.comparing.specs.Comparing as comparing
-use Rattle.checking.specs.Line.{Line, fileText}
-use Rattle.checking.specs.Checking.{checkingOf}
+use Rattle.derivation_files.specs.Line.{fileText}
+use Rattle.derivation_files.specs.Checking.{checkingOf}
+use Rattle.derivation_files.specs.Checks.{ChecksAs}
+use Rattle.derivation_files.specs.Accepted.{Accepted, Claims}
+use Rattle.derivation_files.specs.LaidOut.{LaidOut}
 use Rattle.matching.specs.Matching.{matchingOf}
-use Rattle.checking.specs.Accepted.{LinesFollow, Accepted, claimOf, Claims}
+use Rattle.codes.specs.Decoding.{InC}
 
--- Demand 1: "gets a reply that document 01 lists .. a refused call names its number and changes no lent byte."
--- (That every call ends, and that the reply and every lent byte are those of these definitions, for every input, is what the contracts say.)
-pub record Refusals : Type 0 where
-  pub of-stepping :
-      (area work area′ work′ : List ℕ) (len number place : ℕ) →
-      stepping.steppingOf area len work ≡ stepping.After.after (Reply.refused number place) area′ work′ →
-      List·Memᴰ number (1 ∷ 2 ∷ 3 ∷ 5 ∷ 6 ∷ 7 ∷ []) × (area′ ≡ area) × (work′ ≡ work)
-  pub of-finishing :
-      (area work area′ work′ : List ℕ) (len fuel number place : ℕ) (r : finishing.Ran) →
-      finishing.finishingOf area len work fuel ≡ finishing.After.after (Reply.refused number place) r area′ work′ →
-      List·Memᴰ number (1 ∷ 2 ∷ 3 ∷ 4 ∷ 5 ∷ 6 ∷ 7 ∷ []) × (area′ ≡ area) × (work′ ≡ work)
-  pub of-comparing :
-      (first second work first′ second′ work′ : List ℕ) (len₁ len₂ fuel number place : ℕ) →
-      comparing.comparingOf first len₁ second len₂ work fuel ≡ comparing.After.after (Reply.refused number place) first′ second′ work′ →
-      List·Memᴰ number (1 ∷ 2 ∷ 3 ∷ 4 ∷ 5 ∷ 6 ∷ 7 ∷ []) × (first′ ≡ first) × (second′ ≡ second) × (work′ ≡ work)
-  pub of-reading :
-      (bytes : List ℕ) (number place : ℕ) →
-      readingOf bytes ≡ Reply.refused number place → List·Memᴰ number (5 ∷ 6 ∷ 7 ∷ []) × (place ≤ length bytes)
-  pub of-checking :
-      (file : List ℕ) (number line : ℕ) →
-      checkingOf file ≡ Reply.refused number line →
-      List·Memᴰ number (10 ∷ 11 ∷ 12 ∷ 13 ∷ 14 ∷ 15 ∷ 16 ∷ 17 ∷ 18 ∷ []) × (line ≤ 1024)
-  pub of-matching :
-      (first second : List ℕ) (number line : ℕ) →
-      matchingOf first second ≡ Reply.refused number line →
-      List·Memᴰ number (10 ∷ 11 ∷ 12 ∷ 13 ∷ 14 ∷ 15 ∷ 16 ∷ 17 ∷ 18 ∷ []) × (line ≤ 1024)
+-- the refusals of stepping: 1 to 3 at place 0, and reading's own of the first len bytes
+abbrev pub StepRefuses : (len number place : ℕ) → Type 0
+StepRefuses len number place = Refuses (1 ∷ 2 ∷ 3 ∷ []) (5 ∷ 6 ∷ 7 ∷ []) 0 (min len areaLimit) number place
 
--- the step of stepping: the one that the rules and the order name, and what the areas hold after it
+-- those of finishing: 4 too
+abbrev pub FinishRefuses : (len number place : ℕ) → Type 0
+FinishRefuses len number place = Refuses (1 ∷ 2 ∷ 3 ∷ 4 ∷ []) (5 ∷ 6 ∷ 7 ∷ []) 0 (min len areaLimit) number place
+
+-- those of checking: 10 to 13 at line 0, and 14 to 18 at a line of the file
+abbrev pub CheckRefuses : (file : List ℕ) (number line : ℕ) → Type 0
+CheckRefuses file number line =
+    Refuses (10 ∷ 11 ∷ 12 ∷ 13 ∷ []) (14 ∷ 15 ∷ 16 ∷ 17 ∷ 18 ∷ []) 1 (min lineLimit (length (lines file))) number line
+
+-- what stepping did: the step that the rules and the order name
 pub record SteppedTo (area : List ℕ) (len : ℕ) (work : List ℕ) (rule s : ℕ) (area′ work′ : List ℕ) : Type 0 where
   pub start : Term
   pub next : Term
@@ -62,21 +57,60 @@ pub record SteppedTo (area : List ℕ) (len : ℕ) (work : List ℕ) (rule s : �
   pub area-holds : area′ ≡ holding next area
   pub work-cleared : work′ ≡ cleared work
 
--- the run of finishing: document 01's loop, its outcome and its count, and what the areas hold after it
+-- what finishing did: a run, of which it answers the outcome and the count
 pub record RanTo (area : List ℕ) (len : ℕ) (work : List ℕ) (fuel : ℕ) (o : Outcome) (n s : ℕ) (area′ work′ : List ℕ) : Type 0 where
   pub start : Term
   pub run : Run
   pub held : Holds area len start
-  pub runs : Runs fuel (length area) 0 start run
+  pub run-of : RunOf area len work fuel start run
   pub ends : outcome run ≡ o
   pub counted : count run ≡ n
   pub sized : size (reached start run) ≡ s
   pub area-holds : area′ ≡ holding (reached start run) area
   pub work-cleared : work′ ≡ cleared work
 
--- Demand 2, first half: "Each step is the one that Jay's eleven reduction rules and the order fixed in 01 name. A run says finished, spent or no
--- room exactly on 01's conditions, with the count of steps made."
-pub record Steps : Type 0 where
+-- what comparing did: a run of each term, whose results it compares
+pub record ComparedTo
+    (first : List ℕ) (len₁ : ℕ) (second : List ℕ) (len₂ : ℕ) (work : List ℕ) (fuel : ℕ) (c : comparing.Compared) (first′ second′ work′ : List ℕ) : Type 0
+  where
+    pub start₁ : Term
+    pub start₂ : Term
+    pub run₁ : Run
+    pub run₂ : Run
+    pub held₁ : Holds first len₁ start₁
+    pub held₂ : Holds second len₂ start₂
+    pub run-of₁ : RunOf first len₁ work fuel start₁ run₁
+    pub run-of₂ : RunOf second len₂ work fuel start₂ run₂
+    pub verdict : comparing.verdict (outcome run₁) (outcome run₂) (text (reached start₁ run₁)) (text (reached start₂ run₂)) ≡ c
+    pub first-holds : first′ ≡ holding (reached start₁ run₁) first
+    pub second-holds : second′ ≡ holding (reached start₂ run₂) second
+    pub work-cleared : work′ ≡ cleared work
+
+pub record Demands : Type 0 where
+  -- ---- 1: a reply is a listed one, and a refusal changes no lent byte
+  pub reading-refuses :
+      (bytes : List ℕ) (number place : ℕ) → readingOf bytes ≡ Reply.refused number place → Refuses [] (5 ∷ 6 ∷ 7 ∷ []) 0 (length bytes) number place
+  pub stepping-refuses :
+      (area work area′ work′ : List ℕ) (len number place : ℕ) →
+      stepping.steppingOf area len work ≡ stepping.After.after (Reply.refused number place) area′ work′ →
+      StepRefuses len number place × (area′ ≡ area) × (work′ ≡ work)
+  pub finishing-refuses :
+      (area work area′ work′ : List ℕ) (len fuel number place : ℕ) (r : finishing.Ran) →
+      finishing.finishingOf area len work fuel ≡ finishing.After.after (Reply.refused number place) r area′ work′ →
+      FinishRefuses len number place × (area′ ≡ area) × (work′ ≡ work)
+  pub comparing-refuses :
+      (first second work first′ second′ work′ : List ℕ) (len₁ len₂ fuel number place : ℕ) →
+      comparing.comparingOf first len₁ second len₂ work fuel ≡ comparing.After.after (Reply.refused number place) first′ second′ work′ →
+      (FinishRefuses len₁ number place ⊎ FinishRefuses len₂ number place) × (first′ ≡ first) × (second′ ≡ second) × (work′ ≡ work)
+  pub checking-refuses : (file : List ℕ) (number line : ℕ) → checkingOf file ≡ Reply.refused number line → CheckRefuses file number line
+  pub matching-refuses :
+      (first second : List ℕ) (number line : ℕ) →
+      matchingOf first second ≡ Reply.refused number line → CheckRefuses first number line ⊎ CheckRefuses second number line
+  -- what a caller in C decodes is the operation's reply, and the areas are as the operation leaves them
+  pub in-c : InC
+  -- ---- 2: each step, outcome, count and accepted derivation is the one that the papers name
+  -- reading's reply is the one that its relation gives
+  pub reads : (bytes : List ℕ) (reply : Reply ℕ) → (readingOf bytes ≡ reply) ↔ ReadsAs bytes reply
   pub stepped :
       (area work area′ work′ : List ℕ) (len rule s : ℕ) →
       stepping.steppingOf area len work ≡ stepping.After.after (Reply.answered (stepping.Stepped.stepped rule s)) area′ work′ →
@@ -93,10 +127,26 @@ pub record Steps : Type 0 where
       (area work area′ work′ : List ℕ) (len fuel : ℕ) (o : Outcome) (n s : ℕ) →
       finishing.finishingOf area len work fuel ≡ finishing.After.after (Reply.answered tt) (finishing.Ran.ran o n s) area′ work′ →
       RanTo area len work fuel o n s area′ work′
-
--- Demand 3, first half: "Take any two finished runs, whatever terms, fuels and areas they were given. Their results are equal, byte for byte,
--- exactly when the terms they started from can be turned into each other by Jay's rules".
-pub record Results : Type 0 where
+  pub compared :
+      (first second work first′ second′ work′ : List ℕ) (len₁ len₂ fuel : ℕ) (c : comparing.Compared) →
+      comparing.comparingOf first len₁ second len₂ work fuel ≡ comparing.After.after (Reply.answered c) first′ second′ work′ →
+      ComparedTo first len₁ second len₂ work fuel c first′ second′ work′
+  -- a run inside any operation is finishing's
+  pub run-finishes :
+      (area work : List ℕ) (len fuel : ℕ) (t : Term) (r : Run) → RunOf area len work fuel t r → finishing.finishingOf area len work fuel ≡ finishing.ranFrom t r area work
+  -- checking's reply is the one that its relation gives: the first bad line, and in it the first number
+  pub checks : (file : List ℕ) (reply : Reply ℕ) → (checkingOf file ≡ reply) ↔ ChecksAs file reply
+  pub accepted-exactly : (file : List ℕ) (n : ℕ) → (checkingOf file ≡ Reply.answered n) ↔ Accepted file n
+  -- an accepted file has one claim, and the claim is derivable
+  pub claimed : (file : List ℕ) (n : ℕ) → Accepted file n → (j : Judgement) × Claims file j
+  pub one-claim : (file : List ℕ) (j k : Judgement) → Claims file j → Claims file k → j ≡ k
+  pub claim-derivable : (file : List ℕ) (j : Judgement) → Claims file j → Derivable j
+  -- each derivation is laid out as lines, one a judgement in the same order, and its text is accepted where it fits the limits
+  pub laid-out : (j : Judgement) (earlier : List Judgement) → Derivation (j ∷ earlier) → LaidOut j earlier
+  pub matched :
+      (first second : List ℕ) (G D : Context) (t u : Term) (W X : Ty) → Claims first (Judgement.judge G t W) → Claims second (Judgement.judge D u X) →
+      (matchingOf first second ≡ Reply.answered true) ↔ ((G ≡ D) × (W ≡ X))
+  -- ---- 3: equal results exactly when the terms turn into each other, and reduction keeps the claimed type
   pub equal-exactly :
       (area₁ work₁ area₁′ work₁′ area₂ work₂ area₂′ work₂′ : List ℕ) (len₁ fuel₁ n₁ s₁ len₂ fuel₂ n₂ s₂ : ℕ) (t u : Term) →
       Holds area₁ len₁ t →
@@ -104,26 +154,12 @@ pub record Results : Type 0 where
       finishing.finishingOf area₁ len₁ work₁ fuel₁ ≡ finishing.After.after (Reply.answered tt) (finishing.Ran.ran Outcome.finished n₁ s₁) area₁′ work₁′ →
       finishing.finishingOf area₂ len₂ work₂ fuel₂ ≡ finishing.After.after (Reply.answered tt) (finishing.Ran.ran Outcome.finished n₂ s₂) area₂′ work₂′ →
       (take s₁ area₁′ ≡ take s₂ area₂′) ↔ Turn t u
-
--- Demand 2, second half: "A derivation file within 01's shape and limits is accepted exactly when every line follows, by the one of Jay's eight typing
--- rules that it names, from the earlier lines it names. So an accepted claim is derivable, and each derivable claim whose derivation fits our limits has
--- an accepted file."
-pub record Files : Type 0 where
-  pub accepted-exactly : (file : List ℕ) (n : ℕ) → (checkingOf file ≡ Reply.answered n) ↔ Accepted file n
-  pub claim-derivable : (file : List ℕ) (j : Judgement) → Claims file j → Derivable j
-  pub one-claim : (file : List ℕ) (j k : Judgement) → Claims file j → Claims file k → j ≡ k
-  pub fitting-accepted :
-      (ls : List Line) (j : Judgement) →
-      LinesFollow [] ls → claimOf ls ≡ some j → length ls ≤ 1024 → length (fileText ls) ≤ 65536 →
-      (checkingOf (fileText ls) ≡ Reply.answered (length ls)) × Claims (fileText ls) j
-  pub laid-out : (j : Judgement) → Derivable j → (ls : List Line) × LinesFollow [] ls × (claimOf ls ≡ some j)
-
--- Demand 3, second half: "if the claim of any accepted derivation file is on the term that a run started from, then every term of that run has the
--- claim's type in the claim's context, whatever the run's fuel and area, and whether it ends finished, spent or no room."
-pub record Types : Type 0 where
+  -- the same of any two runs, alone or inside comparing
+  pub results-exactly :
+      (area₁ work₁ area₂ work₂ : List ℕ) (len₁ fuel₁ len₂ fuel₂ : ℕ) (t u : Term) (r s : Run) →
+      RunOf area₁ len₁ work₁ fuel₁ t r → RunOf area₂ len₂ work₂ fuel₂ u s → outcome r ≡ Outcome.finished → outcome s ≡ Outcome.finished →
+      (text (reached t r) ≡ text (reached u s)) ↔ Turn t u
+  -- every term of any run, whatever its fuel, area and outcome, has the type of an accepted claim on the term that it started from
   pub kept :
-      (file : List ℕ) (G : Context) (t : Term) (W : Ty) (area work area′ work′ : List ℕ) (len fuel n s : ℕ) (o : Outcome) →
-      Claims file (Judgement.judge G t W) →
-      Holds area len t →
-      finishing.finishingOf area len work fuel ≡ finishing.After.after (Reply.answered tt) (finishing.Ran.ran o n s) area′ work′ →
-      (u : Term) → List·Memᴰ u (terms t (run fuel (length area) t)) → Derivable (Judgement.judge G u W)
+      (file : List ℕ) (G : Context) (t : Term) (W : Ty) (area work : List ℕ) (len fuel : ℕ) (r : Run) →
+      Claims file (Judgement.judge G t W) → RunOf area len work fuel t r → (u : Term) → List·Memᴰ u (terms t r) → Derivable (Judgement.judge G u W)

@@ -1,15 +1,19 @@
--- Document 01's twelve proved examples, as rows of one table over the operations' definitions. proofs/Examples.antt has the proof that covers it.
--- "Fuel and area are ample unless given." Every expected reply was written by hand from the document.
+-- The twelve proved examples (REQUIREMENTS, Examples), as rows of one table over the operations' definitions. proofs/Examples.antt has the proof
+-- that covers it. Every expected reply was written by hand from the paper; the rules of examples 1 and 3 to 8, which it does not give, were
+-- worked out by hand from figure 1.
 use Prim.Native.Nat.{ℕ, _-_}
 use Prim.Native.String.{String}
 use mathlib.Core.List.{List, [], _∷_, _++_}
+use mathlib.Core.Option.{Option, none, some}
 use lib.ListN.{length, take, replicate}
-use Rattle.calculus.specs.Examples.{ascii}
-use Rattle.calculus.specs.Run.{Outcome}
+use Rattle.calculus.specs.Ascii.{ascii}
+use Rattle.calculus.specs.Term.{Term}
+use Rattle.calculus.specs.Parse.{termOf}
+use Rattle.calculus.specs.Run.{Outcome, run, rules}
 use Rattle.reading.specs.Reply.{Reply}
 use Rattle.reading.specs.Reading.{readingOf}
 use Rattle.finishing.specs.Finishing.{Ran, After, finishingOf}
-use Rattle.checking.specs.Checking.{checkingOf}
+use Rattle.derivation_files.specs.Checking.{checkingOf}
 
 -- a call of an operation
 pub data Call : Type 0 where
@@ -17,9 +21,9 @@ pub data Call : Type 0 where
   read : (bytes : String) → Call
   check : (file : String) → Call
 
--- what it answers; of a run also the bytes of the term now in the area
+-- what it answers; of a run also the rules used, in order, and the bytes of the term now in the area
 pub data Answer : Type 0 where
-  ran : Outcome → (count : ℕ) (term : List ℕ) → Answer
+  ran : Outcome → (count : ℕ) (rules : List ℕ) (term : List ℕ) → Answer
   size : ℕ → Answer
   accepted : (lines : ℕ) → Answer
   refused : (number place : ℕ) → Answer
@@ -33,17 +37,21 @@ ample-fuel = 1_000
 abbrev pub ample-area : ℕ
 ample-area = 64
 
+-- a run of a term: with that fuel and area it has that outcome and count, by those rules, and leaves that term
+abbrev pub runs : (term : String) (fuel area : ℕ) → Outcome → (count : ℕ) (rules : List ℕ) (left : String) → Row
+runs term fuel area outcome count rules left = Row.row (Call.finish term fuel area) (Answer.ran outcome count rules (ascii left))
+
 abbrev pub rows : List Row
 rows =
-    Row.row (Call.finish "J" ample-fuel ample-area) (Answer.ran Outcome.finished 0 (ascii "J")) ∷
-    Row.row (Call.finish "J" 0 ample-area) (Answer.ran Outcome.finished 0 (ascii "J")) ∷
-    Row.row (Call.finish ".BII.JRJ" ample-fuel ample-area) (Answer.ran Outcome.finished 6 (ascii "J")) ∷
-    Row.row (Call.finish ".BII.JRJ" 5 ample-area) (Answer.ran Outcome.spent 5 (ascii ".IJ")) ∷
-    Row.row (Call.finish ".BII.JRJ" ample-fuel 12) (Answer.ran Outcome.finished 6 (ascii "J")) ∷
-    Row.row (Call.finish ".BII.JRJ" ample-fuel 11) (Answer.ran Outcome.no-room 1 (ascii ".BIIHJRJ")) ∷
-    Row.row (Call.finish ".BIIAIRJ" ample-fuel ample-area) (Answer.ran Outcome.finished 2 (ascii "AIRJ")) ∷
-    Row.row (Call.finish ".BIIABJIRJ" ample-fuel ample-area) (Answer.ran Outcome.finished 4 (ascii "ABIIRJ")) ∷
-    Row.row (Call.finish ".B.AIHJJAIHJJI.II" ample-fuel ample-area) (Answer.ran Outcome.finished 2 (ascii "I")) ∷
+    runs "J" ample-fuel ample-area Outcome.finished 0 [] "J" ∷
+    runs "J" 0 ample-area Outcome.finished 0 [] "J" ∷
+    runs ".BII.JRJ" ample-fuel ample-area Outcome.finished 6 (1 ∷ 8 ∷ 6 ∷ 5 ∷ 7 ∷ 5 ∷ []) "J" ∷
+    runs ".BII.JRJ" 5 ample-area Outcome.spent 5 (1 ∷ 8 ∷ 6 ∷ 5 ∷ 7 ∷ []) ".IJ" ∷
+    runs ".BII.JRJ" ample-fuel 12 Outcome.finished 6 (1 ∷ 8 ∷ 6 ∷ 5 ∷ 7 ∷ 5 ∷ []) "J" ∷
+    runs ".BII.JRJ" ample-fuel 11 Outcome.no-room 1 (1 ∷ []) ".BIIHJRJ" ∷
+    runs ".BIIAIRJ" ample-fuel ample-area Outcome.finished 2 (9 ∷ 10 ∷ []) "AIRJ" ∷
+    runs ".BIIABJIRJ" ample-fuel ample-area Outcome.finished 4 (9 ∷ 11 ∷ 6 ∷ 10 ∷ []) "ABIIRJ" ∷
+    runs ".B.AIHJJAIHJJI.II" ample-fuel ample-area Outcome.finished 2 (5 ∷ 10 ∷ []) "I" ∷
     Row.row (Call.read "JJ") (Answer.refused 7 1) ∷
     Row.row (Call.read "HJ") (Answer.refused 6 2) ∷
     Row.row (Call.check "*a1\tJ\ta\tJ\t-\t-\n1\tI\t1\tI\t-\t-\n1\tAIJ\t>aa\tA\t2\t1\n") (Answer.accepted 3) ∷
@@ -54,9 +62,14 @@ rows =
 abbrev pub areaWith : List ℕ → ℕ → List ℕ
 areaWith term area = term ++ replicate (area - length term) 0
 
-abbrev pub ofFinishing : After → Answer
-ofFinishing (After.after (Reply.refused number place) r area work) = Answer.refused number place
-ofFinishing (After.after (Reply.answered done) (Ran.ran o count s) area work) = Answer.ran o count (take s area)
+-- the rules that the run of a text's term uses
+abbrev pub used : Option Term → (fuel area : ℕ) → List ℕ
+used none fuel area = []
+used (some t) fuel area = rules (run fuel area t)
+
+abbrev pub ofFinishing : List ℕ → After → Answer
+ofFinishing rules (After.after (Reply.refused number place) r area work) = Answer.refused number place
+ofFinishing rules (After.after (Reply.answered done) (Ran.ran o count s) area work) = Answer.ran o count rules (take s area)
 
 abbrev pub ofReading : Reply ℕ → Answer
 ofReading (Reply.refused number place) = Answer.refused number place
@@ -68,7 +81,8 @@ ofChecking (Reply.answered lines) = Answer.accepted lines
 
 -- what the operation's definition answers
 abbrev pub answer : Call → Answer
-answer (Call.finish term fuel area) = ofFinishing (finishingOf (areaWith (ascii term) area) (length (ascii term)) (replicate area 0) fuel)
+answer (Call.finish term fuel area) =
+    ofFinishing (used (termOf (ascii term)) fuel area) (finishingOf (areaWith (ascii term) area) (length (ascii term)) (replicate area 0) fuel)
 answer (Call.read bytes) = ofReading (readingOf (ascii bytes))
 answer (Call.check file) = ofChecking (checkingOf (ascii file))
 

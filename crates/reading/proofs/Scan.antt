@@ -1,4 +1,4 @@
--- What reading does at one byte, as laws over plain variables: these carry the loop of `read` and the tests of `parts_of`.
+-- What reading does at one byte, as laws over plain variables: these carry the loop of `read` and the tests of `arity`.
 -- Assumes nothing.
 use Prim.Native.Nat.{ℕ, zero, suc, _+_, _-_, _<_, _≤_}
 use native.Mathlib.Nat.{add-zero}
@@ -14,7 +14,7 @@ use lib.Seq.{drop-cons}
 use Rattle.calculus.specs.Letter.{Letter, byte, owed, alphabet, chosen, find, letterOf}
 use Rattle.reading.specs.Reply.{Reply}
 use Rattle.reading.specs.Reading.{atLetter, readingFrom, readingOf}
-use Rattle.reading.specs.Parts.{partsOfLetter, partsOf}
+use Rattle.reading.specs.Arity.{arityOfLetter, arityOf}
 
 owed-sum : (l : Letter) (k : ℕ) → owed l k ≡ k + owed l 0
 owed-sum Letter.J k = sym (add-zero k)
@@ -45,12 +45,14 @@ at-byte k at s h = ap (readingFrom (suc k) at) (drop-cons s at 0 h)
 pub no-letter :
     (owing at parts : ℕ) (s : List ℕ) →
     at < length s →
-    (owing ≡ 0 → ⊥) → parts ≡ partsOf (getD s at 0) → parts ≡ 3 → readingFrom owing at (drop at s) ≡ Reply.refused 5 at
-unfolding partsOf
+    (owing ≡ 0 → ⊥) → parts ≡ arityOf (getD s at 0) → parts ≡ 3 → readingFrom owing at (drop at s) ≡ Reply.refused 5 at
+unfolding arityOf
 no-letter zero at parts s h owes p e = absurd (owes refl)
 no-letter (suc k) at parts s h owes p e = at-byte k at s h ∙ go (letterOf (getD s at 0)) (sym p ∙ e)
   where
-    go : (o : Option Letter) → partsOfLetter o ≡ 3 → atLetter o at (λ l. readingFrom (owed l k) (suc at) (drop (suc at) s)) ≡ Reply.refused 5 at
+    go :
+        (o : Option Letter) → arityOfLetter o ≡ 3 →
+        atLetter o at (λ l. readingFrom (owed l k) (suc at) (drop (suc at) s)) ≡ Reply.refused 5 at
     go none e = refl
     go (some l) e = let f : owed l 0 < 3 = few l in absurd (omega arith)
 
@@ -59,24 +61,24 @@ pub letter :
     (owing at parts : ℕ) (s : List ℕ) →
     at < length s →
     (owing ≡ 0 → ⊥) →
-    parts ≡ partsOf (getD s at 0) →
+    parts ≡ arityOf (getD s at 0) →
     (parts ≡ 3 → ⊥) →
     readingFrom (owing - 1 + parts) (at + 1) (drop (at + 1) s) ≡ readingFrom owing at (drop at s)
-unfolding partsOf
+unfolding arityOf
 letter zero at parts s h owes p e = absurd (owes refl)
 letter (suc k) at parts s h owes p e =
     rw (add-one, p) (sym (at-byte k at s h ∙ go (letterOf (getD s at 0)) (λ q. e (p ∙ q))))
   where
     go :
         (o : Option Letter) →
-        (partsOfLetter o ≡ 3 → ⊥) →
-        atLetter o at (λ l. readingFrom (owed l k) (suc at) (drop (suc at) s)) ≡ readingFrom (suc k - 1 + partsOfLetter o) (suc at) (drop (suc at) s)
+        (arityOfLetter o ≡ 3 → ⊥) →
+        atLetter o at (λ l. readingFrom (owed l k) (suc at) (drop (suc at) s)) ≡ readingFrom (suc k - 1 + arityOfLetter o) (suc at) (drop (suc at) s)
     go none e = absurd (e refl)
     go (some l) e =
         let sum : owed l k ≡ suc k - 1 + owed l 0 = omega (arith, owed-sum l k) in
         ap (λ (n : ℕ). readingFrom n (suc at) (drop (suc at) s)) sum
 
--- 7 at a byte where the term is already whole
+-- 7 where a byte follows a whole term
 pub already-whole : (owing at : ℕ) (s : List ℕ) → at < length s → owing ≡ 0 → readingFrom owing at (drop at s) ≡ Reply.refused 7 at
 already-whole owing at s h e = rw (e, drop-cons s at 0)
 
@@ -90,11 +92,11 @@ not-yet-whole zero at s h owes = absurd (owes refl)
 not-yet-whole (suc k) at s h owes = rw (drop-of-length-le s h)
 
 -- the count of a letter's byte
-pub parts-byte : (l : Letter) (b : ℕ) → b ≡ byte l → owed l 0 ≡ partsOf b
-unfolding partsOf letterOf
-parts-byte l b e = sym (ap (λ (n : ℕ). partsOfLetter (find n alphabet)) e ∙ known l)
+pub arity-byte : (l : Letter) (b : ℕ) → b ≡ byte l → owed l 0 ≡ arityOf b
+unfolding arityOf letterOf
+arity-byte l b e = sym (ap (λ (n : ℕ). arityOfLetter (find n alphabet)) e ∙ known l)
   where
-    known : (l : Letter) → partsOfLetter (find (byte l) alphabet) ≡ owed l 0
+    known : (l : Letter) → arityOfLetter (find (byte l) alphabet) ≡ owed l 0
     known Letter.J = refl
     known Letter.R = refl
     known Letter.H = refl
@@ -104,20 +106,20 @@ parts-byte l b e = sym (ap (λ (n : ℕ). partsOfLetter (find n alphabet)) e ∙
     known Letter.stop = refl
 
 -- a byte that is none of the letters' has the count 3
-pub parts-none : (b : ℕ) → ((l : Letter) → b ≡ byte l → ⊥) → 3 ≡ partsOf b
-unfolding partsOf letterOf
-parts-none b other = sym (ap partsOfLetter (missing alphabet))
+pub arity-none : (b : ℕ) → ((l : Letter) → b ≡ byte l → ⊥) → 3 ≡ arityOf b
+unfolding arityOf letterOf
+arity-none b other = sym (ap arityOfLetter (missing alphabet))
   where
     missing : (ls : List Letter) → find b ls ≡ none
     missing [] = refl
     missing (l ∷ ls) = ap (λ (t : Bool). chosen t l (find b ls)) (ne-eqb b (byte l) (other l)) ∙ missing ls
 
 -- no letter takes more than two terms
-pub parts-few : (b parts : ℕ) → parts ≡ partsOf b → (parts ≡ 3 → ⊥) → parts < 3
-unfolding partsOf
-parts-few b parts p e = rw p (go (letterOf b) (λ q. e (p ∙ q)))
+pub arity-few : (b parts : ℕ) → parts ≡ arityOf b → (parts ≡ 3 → ⊥) → parts < 3
+unfolding arityOf
+arity-few b parts p e = rw p (go (letterOf b) (λ q. e (p ∙ q)))
   where
-    go : (o : Option Letter) → (partsOfLetter o ≡ 3 → ⊥) → partsOfLetter o < 3
+    go : (o : Option Letter) → (arityOfLetter o ≡ 3 → ⊥) → arityOfLetter o < 3
     go none e = absurd (e refl)
     go (some l) e = few l
 

@@ -78,7 +78,8 @@ taken Letter.B k ts = taken-two Term.B (λ t u. refl) ts
 taken Letter.stop k ts = taken-two Term.app (λ t u. refl) ts
 
 -- an answer says that the bytes are the texts of the terms owed, and counts them
-answered-texts : (k place n : ℕ) (bytes : List ℕ) → readingFrom k place bytes ≡ Reply.answered n → Texts k bytes × (n ≡ place + length bytes)
+answered-texts :
+    (k place n : ℕ) (bytes : List ℕ) → readingFrom k place bytes ≡ Reply.answered n → Texts k bytes × (n ≡ place + length bytes)
 answered-texts zero place n [] e = let same : place ≡ n = cc in (Texts.no-text, omega arith)
 answered-texts zero place n (b ∷ bytes) e = let z : _≡_ {A = ℕ} 0 1 = cc in absurd (omega arith)
 answered-texts (suc k) place n [] e = let z : _≡_ {A = ℕ} 0 1 = cc in absurd (omega arith)
@@ -174,7 +175,8 @@ lettered-cons b l q lettered c m e = ⊎-elim (λ (h : c ≡ b). let z : _≡_ {
 data Goes (k place : ℕ) (bytes : List ℕ) : Reply ℕ → Type 0 where
   whole : {n : ℕ} → Texts k bytes → n ≡ place + length bytes → Goes k place bytes (Reply.answered n)
   already-whole :
-      {n : ℕ} (x : List ℕ) (b : ℕ) (rest : List ℕ) → bytes ≡ x ++ (b ∷ rest) → Texts k x → n ≡ place + length x → Goes k place bytes (Reply.refused 7 n)
+      {n :
+      ℕ} (x : List ℕ) (b : ℕ) (rest : List ℕ) → bytes ≡ x ++ (b ∷ rest) → Texts k x → n ≡ place + length x → Goes k place bytes (Reply.refused 7 n)
   no-letter :
       {n : ℕ} (front : List ℕ) (b : ℕ) (rest : List ℕ) → bytes ≡ front ++ (b ∷ rest) → Lettered front → Short k front → letterOf b ≡ none →
       n ≡ place + length front → Goes k place bytes (Reply.refused 5 n)
@@ -228,7 +230,7 @@ goes-reads {bytes} (Goes.not-yet-whole {n = n} lettered short q) =
     let count : length bytes ≡ n = omega arith in
     subst (λ (m : ℕ). ReadsAs bytes (Reply.refused 6 m)) count (ReadsAs.not-yet-whole lettered (short-unwhole short))
 
--- reading replies as document 01's sentence says
+-- reading replies as the relation says
 pub reads-as : (bytes : List ℕ) → ReadsAs bytes (readingOf bytes)
 unfolding readingOf
 reads-as bytes = goes-reads (goes bytes 1 0)

@@ -1,4 +1,4 @@
--- Document 01's numbers and values for each case of reading's answer.
+-- The number and the value of each case of reading's answer (REQUIREMENTS, Reading).
 use Prim.Native.Nat.{ℕ}
 use Rattle.reading.specs.Reply.{Reply}
 use Rattle.reading.specs.declared.Reading.{Reading}

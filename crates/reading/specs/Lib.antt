@@ -1,4 +1,4 @@
 pub mod Reply
 pub mod Reading
 pub mod Answer
-pub mod Parts
+pub mod Arity

@@ -1,5 +1,4 @@
--- Reading. Document 01: "It goes left to right: 7 at a byte where the term is already whole; 5 at a byte that is not one of the seven
--- letters; 6 at the slice's length if the term is not yet whole (an empty slice is 6 at 0). Otherwise it answers the size."
+-- What reading answers of any bytes, as a function and as a relation (REQUIREMENTS, Reading); proofs/Whole.antt shows that they agree.
 use Prim.Native.Nat.{ℕ, zero, suc}
 use mathlib.Core.Path.{_≡_}
 use mathlib.Core.List.{List, [], _∷_, _++_, List·Memᴰ}
@@ -8,7 +7,7 @@ use lib.ListN.{length}
 use Rattle.calculus.specs.Letter.{Letter, letterOf, owed}
 use Rattle.calculus.specs.Term.{Term, text, size}
 use Rattle.calculus.specs.Parse.{termOf}
-use Rattle.reading.specs.Reply.{Reply}
+use Rattle.reading.specs.Reply.{Reply, passedOn}
 
 -- 5 at that place if the byte there is no letter
 abbrev pub atLetter : Option Letter → ℕ → (Letter → Reply ℕ) → Reply ℕ
@@ -34,7 +33,7 @@ Lettered bytes = (b : ℕ) → List·Memᴰ b bytes → letterOf b ≡ none → 
 abbrev pub Unwhole : List ℕ → Type 0
 Unwhole bytes = (t : Term) (rest : List ℕ) → bytes ≡ text t ++ rest → ⊥
 
--- document 01's sentence as a relation: `ReadsAs bytes reply`
+-- `ReadsAs bytes reply`: by which terms the bytes begin with, and which of them are letters
 pub data ReadsAs (bytes : List ℕ) : Reply ℕ → Type 0 where
   whole : (t : Term) → bytes ≡ text t → ReadsAs bytes (Reply.answered (size t))
   already-whole : (t : Term) (b : ℕ) (rest : List ℕ) → bytes ≡ text t ++ (b ∷ rest) → ReadsAs bytes (Reply.refused 7 (size t))
@@ -43,14 +42,9 @@ pub data ReadsAs (bytes : List ℕ) : Reply ℕ → Type 0 where
       bytes ≡ front ++ (b ∷ rest) → Lettered front → Unwhole front → letterOf b ≡ none → ReadsAs bytes (Reply.refused 5 (length front))
   not-yet-whole : Lettered bytes → Unwhole bytes → ReadsAs bytes (Reply.refused 6 (length bytes))
 
--- the refusal of reading, where the bytes are no term's text
-abbrev pub refusal : {X : Type 0} → Reply ℕ → Reply X
-refusal (Reply.refused number place) = Reply.refused number place
-refusal (Reply.answered n) = Reply.refused 0 n
-
 abbrev pub orRefusal : Option Term → Reply ℕ → Reply Term
 orRefusal (some t) reading = Reply.answered t
-orRefusal none reading = refusal reading
+orRefusal none reading = passedOn reading
 
 -- the term whose text the bytes are, or reading's refusal: what an operation on a term starts from
 unfoldable pub termRead : List ℕ → Reply Term

@@ -1,8 +1,10 @@
 // Reading: whether bytes are the text of one term.
+use calculus::letters;
 ghost use mathlib.Core.Path.{_≡_};
+ghost use Rattle.reading.specs.Reply.{numberIn, placeIn};
 ghost use Rattle.reading.specs.Reading.{readingOf};
 ghost use Rattle.reading.specs.Answer.{answerOf};
-ghost use Rattle.reading.specs.Parts.{partsOf};
+ghost use Rattle.reading.specs.Arity.{arityOf};
 
 // What reading answers; specs/Answer.antt gives the number and the value of each case.
 pub enum Reading {
@@ -16,6 +18,30 @@ pub enum Reading {
     Beyond(usize),
 }
 
+// The number of a refusal, 0 of a size.
+pub fn number(answer: Reading) -> u64
+    ensures { λ r. ⌜ r ≡ numberIn (answerOf answer) ⌝ }
+{
+    match answer {
+        Reading::Whole(_) => 0,
+        Reading::NoLetter(_) => 5,
+        Reading::NotWhole(_) => 6,
+        Reading::Beyond(_) => 7,
+    }
+}
+
+// The place of a refusal, 0 of a size.
+pub fn place(answer: Reading) -> usize
+    ensures { λ r. ⌜ r ≡ placeIn (answerOf answer) ⌝ }
+{
+    match answer {
+        Reading::Whole(_) => 0,
+        Reading::NoLetter(place) => place,
+        Reading::NotWhole(place) => place,
+        Reading::Beyond(place) => place,
+    }
+}
+
 // Reads a slice of any length.
 pub fn read(s: &[u8]) -> Reading
     ensures { λ r. ⌜ answerOf r ≡ readingOf (now (s .entry)) ⌝ }
@@ -26,8 +52,8 @@ pub fn read(s: &[u8]) -> Reading
         if owed == 0 {
             return Reading::Beyond(at);
         }
-        let parts = parts_of(s[at]);
-        if parts == 3 {
+        let parts = arity(s[at]);
+        if parts == NO_LETTER {
             return Reading::NoLetter(at);
         }
         owed = owed - 1 + parts;
@@ -40,30 +66,33 @@ pub fn read(s: &[u8]) -> Reading
     }
 }
 
-// How many terms the letter takes; 3 for a byte that is no letter.
-pub fn parts_of(b: u8) -> usize
-    ensures { λ r. ⌜ r ≡ partsOf b ⌝ }
+// What stands in the place of an arity for a byte that is no letter.
+pub const NO_LETTER: usize = 3;
+
+// How many terms the letter of a byte takes. The compiler makes one table of the comparisons.
+pub fn arity(b: u8) -> usize
+    ensures { λ r. ⌜ r ≡ arityOf b ⌝ }
 {
-    if b == 74 {
+    if b == letters::J {
         return 0;
     }
-    if b == 73 {
+    if b == letters::I {
         return 0;
     }
-    if b == 82 {
+    if b == letters::R {
         return 1;
     }
-    if b == 72 {
+    if b == letters::H {
         return 2;
     }
-    if b == 65 {
+    if b == letters::A {
         return 2;
     }
-    if b == 66 {
+    if b == letters::B {
         return 2;
     }
-    if b == 46 {
+    if b == letters::STOP {
         return 2;
     }
-    3
+    NO_LETTER
 }

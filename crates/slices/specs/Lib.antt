@@ -1,3 +1,4 @@
+pub mod Find
 pub mod Part
 pub mod Put
 pub mod Same

@@ -1,9 +1,15 @@
--- Bytes cut at each place where a given byte stands: lines at byte 10, fields at the tab.
--- Document 01: "A derivation file has one judgement a line, six fields parted by single tabs, each line ended by byte 10".
+-- Bytes cut at each place where a given byte stands: lines at the line feed, fields at the tab (REQUIREMENTS, Derivation files).
 use Prim.Native.Nat.{ℕ}
 use mathlib.Core.Bool.{Bool, true, false}
 use mathlib.Core.List.{List, [], _∷_}
 use lib.Dec.{eqb}
+
+-- the byte between two fields, and the byte that ends a line
+abbrev pub tab : ℕ
+tab = 9
+
+abbrev pub lineFeed : ℕ
+lineFeed = 10
 
 -- a byte more in front of the first piece
 abbrev pub consFirst : ℕ → List (List ℕ) → List (List ℕ)
@@ -19,17 +25,17 @@ abbrev pub split : ℕ → List ℕ → List (List ℕ)
 split mark [] = [] ∷ []
 split mark (b ∷ bytes) = cutOr (eqb b mark) b (split mark bytes)
 
--- the lines of a file: the pieces that a byte 10 ends
+-- the lines of a file: the pieces that a line feed ends
 abbrev pub allButLast : List (List ℕ) → List (List ℕ)
 allButLast [] = []
 allButLast (piece ∷ []) = []
 allButLast (piece ∷ next ∷ pieces) = piece ∷ allButLast (next ∷ pieces)
 
 abbrev pub lines : List ℕ → List (List ℕ)
-lines file = allButLast (split 10 file)
+lines file = allButLast (split lineFeed file)
 
 abbrev pub fields : List ℕ → List (List ℕ)
-fields line = split 9 line
+fields line = split tab line
 
 -- the last byte, 0 of an empty file
 abbrev pub lastByte : List ℕ → ℕ

@@ -3,9 +3,20 @@ ghost use mathlib.Core.Path.{_≡_};
 ghost use mathlib.Core.List.{[], _∷_, _++_};
 ghost use Prim.Native.Nat.{_+_, _-_, _≤_};
 ghost use lib.ListN.{length, take, getD, replicate};
+ghost use Rattle.slices.specs.Find.{indexOf};
 ghost use Rattle.slices.specs.Part.{part};
 ghost use Rattle.slices.specs.Put.{put, behind};
 ghost use Rattle.slices.specs.Same.{same};
+
+// The byte between two fields, and the byte that ends a line.
+pub const TAB: u8 = 9;
+
+pub const LINE_FEED: u8 = 10;
+
+// The bytes of the digits `0` and `9`.
+pub const DIGIT_0: u8 = 48;
+
+pub const DIGIT_9: u8 = 57;
 
 // The byte of `s` at index `at`, and 0 past the end.
 pub fn byte_at(s: &[u8], at: usize) -> u8
@@ -15,6 +26,20 @@ pub fn byte_at(s: &[u8], at: usize) -> u8
         return s[at];
     }
     0
+}
+
+// The index of the first `b`, the length where there is none.
+pub fn find(s: &[u8], b: u8) -> usize
+    ensures { λ r. ⌜ r ≡ indexOf b (now (s .entry)) ⌝ }
+{
+    let mut at = 0;
+    while at < s.len() {
+        if s[at] == b {
+            return at;
+        }
+        at += 1;
+    }
+    at
 }
 
 // The part of `s` from index `from` up to, not including, `to`.

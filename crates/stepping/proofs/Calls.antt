@@ -1,5 +1,5 @@
 -- What a call of stepping comes to: a refusal with the areas as they were, or the step that the order names. Assumes nothing.
-use Prim.Native.Nat.{ℕ, _≤_, _<_}
+use Prim.Native.Nat.{ℕ, _≤_, _<_, min}
 use native.Mathlib.Omega.{arith}
 use mathlib.Core.Path.{_≡_, refl, sym, _∙_}
 use mathlib.Core.Bool.{Bool, true, false}
@@ -7,13 +7,14 @@ use mathlib.Core.List.{List, [], _∷_}
 use borrow.Author.Tests.{leb-true, leb-false, ltb-false}
 use lib.Dec.{leb, ltb}
 use lib.ListN.{length, take, length-take}
+use Rattle.calculus.specs.Limits.{areaLimit}
 use Rattle.calculus.specs.Term.{Term, size, Normal}
 use Rattle.calculus.specs.Order.{Next, next, Step}
 use Rattle.calculus.proofs.PrefixCode.{text-injective}
 use Rattle.calculus.proofs.Order.{next-is-stop, next-is-step}
-use Rattle.reading.specs.Reply.{Reply, refuseIf}
+use Rattle.reading.specs.Reply.{Reply, refuseIf, Refuses}
 use Rattle.reading.specs.Reading.{termRead}
-use Rattle.reading.proofs.Numbers.{Listed, term-passed, term-refused}
+use Rattle.reading.proofs.Numbers.{Unread, widened, term-passed, term-refused}
 use Rattle.reading.proofs.Refusing.{passed, passed-on, refused-by}
 use Rattle.stepping.specs.Areas.{refusedAreas, holding, cleared}
 use Rattle.stepping.specs.Held.{Holds}
@@ -21,7 +22,7 @@ use Rattle.stepping.specs.Stepping.{After, Stepped, admitted, stepTo, st
 
 -- the areas of a call that is not refused by 1, 2 or 3
 pub record Areas (area : List ℕ) (len : ℕ) (work : List ℕ) : Type 0 where
-  pub short : length area ≤ 16384
+  pub short : length area ≤ areaLimit
   pub room : length area ≤ length work
   pub within : len ≤ length area
 
@@ -31,26 +32,28 @@ pub areas-passed :
 areas-passed area len work other x e =
     let third = refuseIf (ltb (length area) len) 3 other in
     let second = refuseIf (ltb (length work) (length area)) 2 third in
-    let e₂ = passed-on (ltb 16384 (length area)) 1 second x e in
+    let e₂ = passed-on (ltb areaLimit (length area)) 1 second x e in
     let e₃ = passed-on (ltb (length work) (length area)) 2 third x e₂ in (
       record {
-        short = ltb-false 16384 (length area) (passed (ltb 16384 (length area)) 1 second x e);
+        short = ltb-false areaLimit (length area) (passed (ltb areaLimit (length area)) 1 second x e);
         room = ltb-false (length work) (length area) (passed (ltb (length work) (length area)) 2 third x e₂);
         within = ltb-false (length area) len (passed (ltb (length area) len) 3 other x e₃);
       },
       passed-on (ltb (length area) len) 3 other x e₃,
     )
 
--- what 1, 2 and 3 pass on is refused of an area of at most 16,384 bytes
+-- what 1, 2 and 3 pass on is refused behind them, of a length within the limit
 pub areas-refused :
-    {X : Type 0} (area : List ℕ) (len : ℕ) (work : List ℕ) (other : Reply X) (numbers : List ℕ) (most n p : ℕ) →
-    (length area ≤ 16384 → other ≡ Reply.refused n p → Listed numbers most n p) →
-    refusedAreas area len work other ≡ Reply.refused n p → Listed (1 ∷ 2 ∷ 3 ∷ numbers) most n p
-areas-refused area len work other numbers most n p rest =
-    refused-by (ltb 16384 (length area)) 1 n p _ (2 ∷ 3 ∷ numbers) most
+    {X : Type 0} (area : List ℕ) (len : ℕ) (work : List ℕ) (other : Reply X) (plain placed : List ℕ) (least most n p : ℕ) →
+    (len ≤ areaLimit → other ≡ Reply.refused n p → Refuses plain placed least most n p) →
+    refusedAreas area len work other ≡ Reply.refused n p → Refuses (1 ∷ 2 ∷ 3 ∷ plain) placed least most n p
+areas-refused area len work other plain placed least most n p rest =
+    refused-by (ltb areaLimit (length area)) 1 n p _ (2 ∷ 3 ∷ plain) placed least most
     (λ short.
-    refused-by (ltb (length work) (length area)) 2 n p _ (3 ∷ numbers) most
-    (λ room. refused-by (ltb (length area) len) 3 n p other numbers most (λ within. rest (ltb-false 16384 (length area) short))))
+    refused-by (ltb (length work) (length area)) 2 n p _ (3 ∷ plain) placed least most
+    (λ room.
+    refused-by (ltb (length area) len) 3 n p other plain placed least most
+    (λ within. rest (omega (arith, ltb-false areaLimit (length area) short, ltb-false (length area) len within)))))
 
 -- the term in the area is one
 pub held-unique : (area : List ℕ) (len : ℕ) (t u : Term) → Holds area len t → Holds area len u → t ≡ u
@@ -69,7 +72,9 @@ pub data Answers (area work : List ℕ) (t : Term) : After → Type 0 where
 answers : (area work : List ℕ) (t : Term) → Answers area work t (stepNext t (next t) area work)
 answers area work t = go (next t) refl
   where
-    room : (rule : ℕ) (u : Term) → Step rule t u → (fits : Bool) → leb (size u) (length area) ≡ fits → Answers area work t (stepTo fits t rule u area work)
+    room :
+        (rule : ℕ) (u : Term) → Step rule t u → (fits : Bool) → leb (size u) (length area) ≡ fits →
+        Answers area work t (stepTo fits t rule u area work)
     room rule u s true e = Answers.stepped s (leb-true (size u) (length area) e)
     room rule u s false e = Answers.no-room s (leb-false (size u) (length area) e)
 
@@ -80,15 +85,16 @@ answers area work t = go (next t) refl
 -- a call of stepping: refused with the areas as they were, or answered
 pub data Call (area : List ℕ) (len : ℕ) (work : List ℕ) : After → Type 0 where
   refused :
-      {number place : ℕ} → Listed (1 ∷ 2 ∷ 3 ∷ 5 ∷ 6 ∷ 7 ∷ []) 16384 number place →
+      {number place : ℕ} → Refuses (1 ∷ 2 ∷ 3 ∷ []) (5 ∷ 6 ∷ 7 ∷ []) 0 (min len areaLimit) number place →
       Call area len work (After.after (Reply.refused number place) area work)
   made : {after : After} (t : Term) → Areas area len work → Holds area len t → Answers area work t after → Call area len work after
 
--- a place within the term is within the area
-pub within-area :
-    (area : List ℕ) (len n p : ℕ) →
-    length area ≤ 16384 → Listed (5 ∷ 6 ∷ 7 ∷ []) (length (take len area)) n p → Listed (5 ∷ 6 ∷ 7 ∷ []) 16384 n p
-within-area area len n p short found = record { listed = found .listed; within = omega (arith, found .within, length-take len area) }
+-- what reading refuses of the first len bytes is at a place up to len
+pub within-term :
+    (area : List ℕ) (len n p : ℕ) → len ≤ areaLimit → termRead (take len area) ≡ Reply.refused n p → Unread (min len areaLimit) n p
+within-term area len n p short e =
+    let most : length (take len area) ≤ min len areaLimit = omega (arith, length-take len area) in
+    widened (omega arith) most (term-refused (take len area) n p e)
 
 pub call : (area : List ℕ) (len : ℕ) (work : List ℕ) → Call area len work (steppingOf area len work)
 unfolding steppingOf
@@ -97,9 +103,7 @@ call area len work = go (admitted area len work) refl
     go : (x : Reply Term) → admitted area len work ≡ x → Call area len work (stepAdmitted x area work)
     go (Reply.refused n p) e =
         Call.refused
-        (areas-refused area len work (termRead (take len area)) (5 ∷ 6 ∷ 7 ∷ []) 16384 n p
-        (λ short f. within-area area len n p short (term-refused (take len area) n p f))
-        e)
+        (areas-refused area len work (termRead (take len area)) [] (5 ∷ 6 ∷ 7 ∷ []) 0 (min len areaLimit) n p (within-term area len n p) e)
     go (Reply.answered t) e =
         let (areas, read) = areas-passed area len work (termRead (take len area)) t e in
         Call.made t areas (record { within = areas .within; written = term-passed (take len area) t read }) (answers area work t)

@@ -1,10 +1,2 @@
-pub mod Skip
-pub mod Heads
-pub mod Pieces
-pub mod Stops
-pub mod Spots
-pub mod Tested
-pub mod Rules
-pub mod Writing
 pub mod Stepped
 pub mod Calls

@@ -7,11 +7,15 @@ use mathlib.Core.Bool.{Bool}
 use mathlib.Core.List.{List, _++_}
 use borrow.Author.Tests.{lt-ltb, le-ltb, le-leb, lt-leb}
 use lib.Dec.{leb}
-use lib.ListN.{length, take, drop, replicate, length-append, length-take, take-append-drop}
+use lib.ListN.{length, take, replicate, length-append, length-take}
+use lib.Seq.{length-take-le}
+use Rattle.calculus.specs.Letter.{Letter, byte}
+use Rattle.calculus.specs.Limits.{areaLimit}
 use Rattle.calculus.specs.Term.{Term, text, size}
 use Rattle.calculus.specs.Order.{Next, next}
 use Rattle.calculus.specs.Parse.{termOf}
 use Rattle.calculus.proofs.PrefixCode.{length-text, termOf-text}
+use Rattle.slices.specs.Find.{indexOf}
 use Rattle.slices.specs.Part.{part}
 use Rattle.slices.specs.Put.{put, behind}
 use Rattle.slices.specs.Wrote.{Wrote}
@@ -20,32 +24,37 @@ use Rattle.slices.proofs.Wrote.{wrote-put, wrote-piece, wrote-zeros}
 use Rattle.reading.specs.Reply.{Reply}
 use Rattle.reading.specs.Reading.{readingOf, orRefusal, termRead}
 use Rattle.reading.proofs.Whole.{whole-term, refused-none}
+use Rattle.redexes.specs.Moves.{Move, Leads}
+use Rattle.redexes.specs.Spot.{Spot, Found}
+use Rattle.redexes.proofs.Moves.{spot-laid, move-stays}
+use Rattle.redexes.proofs.Found.{spot-within, search-found}
+use Rattle.rewriting.specs.declared.Rewrite.{Rewrite}
+use Rattle.rewriting.specs.Rewriting.{rewriteOf}
+use Rattle.rewriting.specs.Text.{piecesOf, rewritten}
+use Rattle.rewriting.proofs.Rules.{fires}
+use Rattle.writing.specs.PutAll.{putAll, behindAll}
+use Rattle.writing.proofs.Pieces.{wrote-all}
 use Rattle.stepping.specs.Areas.{holding, cleared}
+use Rattle.stepping.specs.Held.{Holds}
 use Rattle.stepping.specs.Stepping.{Stepped, After, stepTo, stepNext, stepAdmitted, steppingOf}
-use Rattle.stepping.specs.Spot.{Begins, Spot, Move, Found}
-use Rattle.stepping.specs.declared.rewrite.Rewrite.{Rewrite}
-use Rattle.stepping.specs.Rewriting.{rewriteOf, rewritten}
-use Rattle.stepping.proofs.Stops.{held, spot-within}
-use Rattle.stepping.proofs.Spots.{spot-laid, move-stays}
-use Rattle.stepping.proofs.Rules.{fires}
 
 -- ---- what is found
 
--- the rewrite w makes the next step of t, in the first len bytes of s
-pub record Makes (t : Term) (s : List ℕ) (len : ℕ) (w : Rewrite) : Type 0 where
+-- the rewrite w makes the next step of t
+pub record Makes (t : Term) (w : Rewrite) : Type 0 where
   pub reduct : Term
   pub step : next t ≡ Next.step (w .rule) reduct
-  pub spelt : rewritten w len s ≡ text reduct
-  pub grows : size reduct ≤ len + (w .again - w .from)
-  pub exact : 0 < w .again - w .from → size reduct ≡ len + (w .again - w .from)
+  pub spelt : rewritten w (text t) ≡ text reduct
+  pub grows : size reduct ≤ size t + (w .again .to - w .again .from)
+  pub exact : 0 < w .again .to - w .again .from → size reduct ≡ size t + (w .again .to - w .again .from)
 
 -- nothing is found at the end of the term only where nothing comes next
-found-end : {t : Term} {s : List ℕ} {len r : ℕ} → Found t s len r → len ≡ size t → r ≡ len → next t ≡ Next.stop
-found-end (Found.nothing e) n q = e
-found-end (Found.redex spot move) n q = absurd (omega (arith, spot-within spot))
+found-end : {t : Term} {r : ℕ} → Found t r → r ≡ size t → next t ≡ Next.stop
+found-end (Found.nothing e) q = e
+found-end (Found.redex spot move) q = absurd (omega (arith, spot-within spot))
 
 -- what is found elsewhere is the redex
-found-redex : {t : Term} {s : List ℕ} {len r : ℕ} → Found t s len r → ¬ (r ≡ len) → Spot t r × Move s r r
+found-redex : {t : Term} {r : ℕ} → Found t r → ¬ (r ≡ size t) → Spot t r × Move (text t) r r
 found-redex (Found.nothing e) n = absurd (n refl)
 found-redex (Found.redex spot move) n = (spot, move)
 
@@ -54,16 +63,15 @@ length-three : (x : List ℕ) (t : Term) (y : List ℕ) → length (x ++ (text t
 length-three x t y = omega (arith, length-append x (text t ++ y), length-append (text t) y, length-text t)
 
 -- and its rewrite makes the next step
-pub found-makes : {s : List ℕ} {len r : ℕ} (h : Begins s len) → Found (h .term) s len r → ¬ (r ≡ len) → Makes (h .term) s len (rewriteOf s r)
-found-makes {s} {len} {r} h found n =
-    let both = found-redex found n in
-    let spot = both .0 in
-    let stays = move-stays (both .1) refl in
+found-makes : {t : Term} {r : ℕ} → Found t r → ¬ (r ≡ size t) → Makes t (rewriteOf (text t) r)
+found-makes {t} {r} found n =
+    let (spot, move) = found-redex found n in
+    let stays = move-stays move refl in
     let redex = Term.app (spot .function) (spot .argument) in
-    let long : len ≡ r + size redex + length (spot .back) =
-    omega (arith, h .sized, length-text (h .term), ap length (spot .spelt), length-three (spot .front) redex (spot .back), spot .place) in
-    let fired = fires (spot .function) (spot .argument) (spot-laid h spot) long (stays .0) (stays .1) in
-    let whole = spot .steps (rewriteOf s r .rule) (fired .value) (fired .step) in
+    let long : size t ≡ r + size redex + length (spot .back) =
+    omega (arith, length-text t, ap length (spot .spelt), length-three (spot .front) redex (spot .back), spot .place) in
+    let fired = fires (spot .function) (spot .argument) (spot-laid spot) (stays .0) (stays .1) in
+    let whole = spot .steps (rewriteOf (text t) r .rule) (fired .value) (fired .step) in
     let sum : size (whole .reduct) ≡ r + size (fired .value) + length (spot .back) =
     omega
     (arith, length-text (whole .reduct), ap length (whole .spelt), length-three (spot .front) (fired .value) (spot .back), spot .place) in
@@ -76,10 +84,6 @@ found-makes {s} {len} {r} h found n =
     }
 
 -- ---- what is written and cleared
-
--- zeros behind the term
-pub holding-held : {s : List ℕ} {len : ℕ} (h : Begins s len) → take len s ++ replicate (length s - len) 0 ≡ holding (h .term) s
-holding-held {s} h = ap₂ (λ (l : List ℕ) (n : ℕ). l ++ replicate (length s - n) 0) (held h) (h .sized)
 
 -- the new term, put at the front of the area, and zeros behind it
 pub holding-put :
@@ -94,59 +98,89 @@ holding-put n work area area₁ area₂ e z t old w h =
 
 -- ---- the ways out of `advance`
 
-module _ {area : List ℕ} {len : ℕ} (h : Begins area len) (work : List ℕ) where
-  -- where nothing comes next
-  pub after-normal :
-      {r : ℕ} {area′ work′ : List ℕ} → Found (h .term) area len r → r ≡ len →
-      area′ ≡ take len area ++ replicate (length area - len) 0 → work′ ≡ cleared work →
-      After.after (Reply.answered (Stepped.normal len)) area′ work′ ≡ stepNext (h .term) (next (h .term)) area work
-  after-normal found e a w =
-      ap₂ (λ (x y : List ℕ). After.after (Reply.answered (Stepped.normal len)) x y) (a ∙ holding-held h) w
-      ∙ ap (λ (n : ℕ). After.after (Reply.answered (Stepped.normal n)) (holding (h .term) area) (cleared work)) (h .sized)
-      ∙ sym (ap (λ (x : Next). stepNext (h .term) x area work) (found-end found (h .sized) e))
+-- the search in the first len bytes ends at r
+abbrev pub EndsAt : (area : List ℕ) (len r : ℕ) → Type 0
+EndsAt area len r = Leads (take len area) (indexOf (byte Letter.stop) (take len area)) r
 
-  module _ {w : Rewrite} (makes : Makes (h .term) area len w) where
-    -- the step that comes next, by whether its term fits
-    next-step : stepNext (h .term) (next (h .term)) area work ≡ stepTo (leb (size (makes .reduct)) (length area)) (h .term) (w .rule) (makes .reduct) area work
-    next-step = ap (λ (x : Next). stepNext (h .term) x area work) (makes .step)
+module _ {area : List ℕ} {len : ℕ} {t : Term} (h : Holds area len t) where
+  held-size : len ≡ size t
+  held-size = omega (arith, length-take-le len area (h .within), ap length (h .written), length-text t)
 
-    -- where it does not fit
-    pub after-no-room :
-        {g : ℕ} {area′ work′ : List ℕ} → g ≡ w .again - w .from → len ≤ length area → length area - len < g →
+  -- zeros behind the term
+  holding-held : take len area ++ replicate (length area - len) 0 ≡ holding t area
+  holding-held = ap₂ (λ (l : List ℕ) (n : ℕ). l ++ replicate (length area - n) 0) (h .written) held-size
+
+  -- what the search ends at in the text of t
+  held-found : {r : ℕ} → EndsAt area len r → Found t r
+  held-found {r} led = search-found t (subst (λ (l : List ℕ). Leads l (indexOf (byte Letter.stop) l) r) (h .written) led)
+
+  -- what the rule that applies there makes of it
+  pub held-makes : {r : ℕ} (w : Rewrite) → EndsAt area len r → ¬ (r ≡ len) → w ≡ rewriteOf (take len area) r → Makes t w
+  held-makes {r} w led n e =
+      subst (Makes t) (sym (e ∙ ap (λ (l : List ℕ). rewriteOf l r) (h .written)))
+      (found-makes (held-found led) (λ q. n (q ∙ sym held-size)))
+
+  module _ (work : List ℕ) where
+    -- where nothing comes next
+    pub after-normal :
+        {r : ℕ} {area′ work′ : List ℕ} → EndsAt area len r → r ≡ len →
         area′ ≡ take len area ++ replicate (length area - len) 0 → work′ ≡ cleared work →
-        After.after (Reply.answered (Stepped.no-room len)) area′ work′ ≡ stepNext (h .term) (next (h .term)) area work
-    after-no-room {g} e k q a c =
-        let large : length area < size (makes .reduct) = omega (arith, makes .exact (omega arith)) in
-        ap₂ (λ (x y : List ℕ). After.after (Reply.answered (Stepped.no-room len)) x y) (a ∙ holding-held h) c
-        ∙ ap (λ (n : ℕ). After.after (Reply.answered (Stepped.no-room n)) (holding (h .term) area) (cleared work)) (h .sized)
-        ∙ sym (next-step ∙ ap (λ (b : Bool). stepTo b (h .term) (w .rule) (makes .reduct) area work) (lt-leb _ _ large))
+        After.after (Reply.answered (Stepped.normal len)) area′ work′ ≡ stepNext t (next t) area work
+    after-normal led e a w =
+        ap₂ (λ (x y : List ℕ). After.after (Reply.answered (Stepped.normal len)) x y) (a ∙ holding-held) w
+        ∙ ap (λ (n : ℕ). After.after (Reply.answered (Stepped.normal n)) (holding t area) (cleared work)) held-size
+        ∙ sym (ap (λ (x : Next). stepNext t x area work) (found-end (held-found led) (e ∙ held-size)))
 
-    -- where it fits
-    pub after-step :
-        {g n : ℕ} {work₁ area′ work′ : List ℕ} → g ≡ w .again - w .from → len ≤ length area → g ≤ length area - len → length area ≤ length work →
-        (length (rewritten w len area) ≤ length work → Wrote 0 n (rewritten w len area) work work₁) →
-        ((t : Term) (old : List ℕ) → Wrote 0 n (text t) old work₁ → n ≤ length area → area′ ≡ holding t area) →
-        work′ ≡ cleared work₁ →
-        After.after (Reply.answered (Stepped.stepped (w .rule) n)) area′ work′ ≡ stepNext (h .term) (next (h .term)) area work
-    after-step {g} {n} {work₁} e k q m wrote put c =
-        let u = makes .reduct in
-        let small : size u ≤ length area = omega (arith, makes .grows) in
-        let fits : length (rewritten w len area) ≤ length work = omega (arith, ap length (makes .spelt), length-text u) in
-        let new : Wrote 0 n (text u) work work₁ = subst (λ (l : List ℕ). Wrote 0 n l work work₁) (makes .spelt) (wrote fits) in
-        let count : n ≡ size u = omega (arith, new .ends, length-text u) in
-        ap₂ (λ (x y : List ℕ). After.after (Reply.answered (Stepped.stepped (w .rule) n)) x y) (put u work new (omega arith)) (c ∙ ap (λ (l : ℕ). replicate l 0) (new .size))
-        ∙ ap (λ (l : ℕ). After.after (Reply.answered (Stepped.stepped (w .rule) l)) (holding u area) (cleared work)) count
-        ∙ sym (next-step ∙ ap (λ (b : Bool). stepTo b (h .term) (w .rule) u area work) (le-leb _ _ small))
+    module _ {w : Rewrite} (makes : Makes t w) where
+      -- the step that comes next, by whether its term fits
+      next-step : stepNext t (next t) area work ≡ stepTo (leb (size (makes .reduct)) (length area)) t (w .rule) (makes .reduct) area work
+      next-step = ap (λ (x : Next). stepNext t x area work) (makes .step)
+
+      -- where it does not fit
+      pub after-no-room :
+          {g : ℕ} {area′ work′ : List ℕ} → g ≡ w .again .to - w .again .from → length area - len < g →
+          area′ ≡ take len area ++ replicate (length area - len) 0 → work′ ≡ cleared work →
+          After.after (Reply.answered (Stepped.no-room len)) area′ work′ ≡ stepNext t (next t) area work
+      after-no-room {g} e q a c =
+          let large : length area < size (makes .reduct) = omega (arith, makes .exact (omega arith), held-size, h .within) in
+          ap₂ (λ (x y : List ℕ). After.after (Reply.answered (Stepped.no-room len)) x y) (a ∙ holding-held) c
+          ∙ ap (λ (n : ℕ). After.after (Reply.answered (Stepped.no-room n)) (holding t area) (cleared work)) held-size
+          ∙ sym (next-step ∙ ap (λ (b : Bool). stepTo b t (w .rule) (makes .reduct) area work) (lt-leb _ _ large))
+
+      -- where it fits
+      pub after-step :
+          {g n : ℕ} {work₁ area′ work′ : List ℕ} → g ≡ w .again .to - w .again .from → g ≤ length area - len → length area ≤ length work →
+          work₁ ≡ putAll 0 (piecesOf w (take len area)) work → n ≡ behindAll 0 (piecesOf w (take len area)) work →
+          ((t : Term) (old : List ℕ) → Wrote 0 n (text t) old work₁ → n ≤ length area → area′ ≡ holding t area) →
+          work′ ≡ cleared work₁ →
+          After.after (Reply.answered (Stepped.stepped (w .rule) n)) area′ work′ ≡ stepNext t (next t) area work
+      after-step {g} {n} {work₁} e q m put behind back c =
+          let u = makes .reduct in
+          let pieces = piecesOf w (take len area) in
+          let small : size u ≤ length area = omega (arith, makes .grows, held-size, h .within) in
+          let spelt : rewritten w (take len area) ≡ text u = ap (rewritten w) (h .written) ∙ makes .spelt in
+          let wrote = wrote-all pieces work (omega (arith, ap length spelt, length-text u)) in
+          let new : Wrote 0 n (text u) work work₁ =
+          subst (λ (l : List ℕ). Wrote 0 n l work work₁) spelt
+          (subst (λ (k : ℕ). Wrote 0 k (rewritten w (take len area)) work work₁) (sym behind)
+          (subst (Wrote 0 (behindAll 0 pieces work) (rewritten w (take len area)) work) (sym put) wrote)) in
+          let count : n ≡ size u = omega (arith, new .ends, length-text u) in
+          ap₂
+          (λ (x y : List ℕ). After.after (Reply.answered (Stepped.stepped (w .rule) n)) x y)
+          (back u work new (omega arith))
+          (c ∙ ap (λ (l : ℕ). replicate l 0) (new .size))
+          ∙ ap (λ (l : ℕ). After.after (Reply.answered (Stepped.stepped (w .rule) l)) (holding u area) (cleared work)) count
+          ∙ sym (next-step ∙ ap (λ (b : Bool). stepTo b t (w .rule) u area work) (le-leb _ _ small))
 
 -- ---- the ways out of `step`
 
 module _ (area : List ℕ) (len : ℕ) (work : List ℕ) where
   -- 1
-  pub area-refused : 16384 < length area → After.after (Reply.refused 1 0) area work ≡ steppingOf area len work
+  pub area-refused : areaLimit < length area → After.after (Reply.refused 1 0) area work ≡ steppingOf area len work
   unfolding steppingOf
   area-refused h = rw (lt-ltb _ _ h)
 
-  module _ (short : length area ≤ 16384) where
+  module _ (short : length area ≤ areaLimit) where
     -- 2
     pub work-refused : length work < length area → After.after (Reply.refused 2 0) area work ≡ steppingOf area len work
     unfolding steppingOf
@@ -178,20 +212,13 @@ module _ (area : List ℕ) (len : ℕ) (work : List ℕ) where
         -- what reading answers
         pub reading-answered :
             (n : ℕ) → Reply.answered n ≡ readingOf (take len area) →
-            (h : Begins area n) × (n ≤ length area) × (steppingOf area len work ≡ stepNext (h .term) (next (h .term)) area work)
+            (t : Term) × Holds area n t × (steppingOf area len work ≡ stepNext t (next t) area work)
         unfolding termRead
         reading-answered n e =
             let read = whole-term (take len area) n (sym e) in
             let t = read .0 in
             let same : n ≡ len = omega (arith, read .2, length-text t, ap length (read .1), length-take len area) in (
-              record {
-                term = t;
-                rest = drop len area;
-                spelt = sym (take-append-drop len area) ∙ ap (λ (l : List ℕ). l ++ drop len area) (read .1);
-                sized = sym (read .2);
-              },
-              omega arith,
-              read-decides
-                  (Reply.answered t)
-                  (ap₂ orRefusal (ap termOf (read .1) ∙ termOf-text t) refl),
+              t,
+              record { within = omega arith; written = ap (λ (k : ℕ). take k area) same ∙ read .1 },
+              read-decides (Reply.answered t) (ap₂ orRefusal (ap termOf (read .1) ∙ termOf-text t) refl),
             )

@@ -1,6 +1,5 @@
--- Document 01's numbers and values for each case of stepping's answer.
-use Rattle.reading.specs.Reply.{Reply}
-use Rattle.reading.specs.Reading.{refusal}
+-- The number and the values of each case of stepping's answer (REQUIREMENTS, Stepping).
+use Rattle.reading.specs.Reply.{Reply, passedOn}
 use Rattle.reading.specs.Answer.{answerOf as readingAnswer}
 use Rattle.stepping.specs.Stepping.{Stepped}
 use Rattle.stepping.specs.declared.Stepping.{Stepping}
@@ -10,7 +9,7 @@ abbrev pub answerOf : Stepping → Reply Stepped
 answerOf AreaTooLong = Reply.refused 1 0
 answerOf WorkTooShort = Reply.refused 2 0
 answerOf LengthTooLong = Reply.refused 3 0
-answerOf (Unread reading) = refusal (readingAnswer reading)
+answerOf (Unread reading) = passedOn (readingAnswer reading)
 answerOf (Normal size) = Reply.answered (Stepped.normal size)
 answerOf (NoRoom size) = Reply.answered (Stepped.no-room size)
 answerOf (Done rule size) = Reply.answered (Stepped.stepped rule size)

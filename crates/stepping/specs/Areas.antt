@@ -1,17 +1,17 @@
 -- The lent areas: what is refused of them, and what they hold after a call that is not refused.
--- Document 01: "1: the term area is over 16,384 bytes. 2: the work area is shorter than the term area. 3: the length exceeds the term
--- area. .. After stepping, finishing or comparing that was not refused, the area behind the term and the whole work area hold zeros."
+-- (REQUIREMENTS, Replies and areas; the numbers 1 to 3: Stepping).
 use Prim.Native.Nat.{ℕ, _-_}
 use mathlib.Core.List.{List, _++_}
 use lib.Dec.{ltb}
 use lib.ListN.{length, replicate}
+use Rattle.calculus.specs.Limits.{areaLimit}
 use Rattle.calculus.specs.Term.{Term, text, size}
 use Rattle.reading.specs.Reply.{Reply, refuseIf}
 
 -- 1, 2 and 3, else the other reply
 abbrev pub refusedAreas : {X : Type 0} (area : List ℕ) (len : ℕ) (work : List ℕ) → Reply X → Reply X
 refusedAreas area len work other =
-    refuseIf (ltb 16384 (length area)) 1
+    refuseIf (ltb areaLimit (length area)) 1
     (refuseIf (ltb (length work) (length area)) 2
     (refuseIf (ltb (length area) len) 3 other))
 

@@ -1,4 +1,4 @@
--- The term in an area. Document 01: "Stepping takes a term area, a term length and a work area."
+-- The term in an area (REQUIREMENTS, Replies and areas). Assumes nothing.
 use Prim.Native.Nat.{ℕ, _≤_}
 use mathlib.Core.Path.{_≡_}
 use mathlib.Core.List.{List}

@@ -1,6 +1,4 @@
--- Stepping. Document 01: "1: the term area is over 16,384 bytes. 2: the work area is shorter than the term area. 3: the length exceeds
--- the term area. Then 5, 6, 7 as in reading. Otherwise it answers normal, or no room if the next term is larger than the term area
--- (the term stays), or stepped, with the rule's number."
+-- What stepping answers and leaves in the areas, for any call (REQUIREMENTS, Stepping).
 use Prim.Native.Nat.{ℕ}
 use mathlib.Core.Bool.{Bool, true, false}
 use mathlib.Core.List.{List}

@@ -1,22 +1,19 @@
 // Stepping: one step of the term in a lent area.
-mod ends;
-mod rewrite;
-mod search;
-
 use reading::Reading;
-use rewrite::growth;
-use rewrite::rewrite_at;
-use rewrite::write;
-use search::redex;
+use redexes::redex;
+use rewriting::growth;
+use rewriting::rewrite_at;
+use writing::write;
 ghost use mathlib.Core.Path.{_≡_};
 ghost use mathlib.Core.List.{List, _++_};
 ghost use Prim.Native.Nat.{ℕ, _-_, _≤_};
 ghost use lib.ListN.{length, take, replicate};
 ghost use Rattle.calculus.specs.Term.{Term, text};
 ghost use Rattle.calculus.specs.Order.{next};
+ghost use Rattle.reading.specs.Reply.{numberIn, placeIn};
 ghost use Rattle.slices.specs.Wrote.{Wrote};
 ghost use Rattle.stepping.specs.Areas.{holding};
-ghost use Rattle.stepping.specs.Spot.{Begins};
+ghost use Rattle.stepping.specs.Held.{Holds};
 ghost use Rattle.stepping.specs.Stepping.{After, stepNext, steppingOf};
 ghost use Rattle.stepping.specs.Answer.{answerOf};
 
@@ -36,6 +33,36 @@ pub enum Stepping {
     NoRoom(usize),
     // The rule's number, and the size of the new term.
     Done(u8, usize),
+}
+
+// The number of a refusal, 0 of an answer.
+pub fn number(answer: Stepping) -> u64
+    ensures { λ r. ⌜ r ≡ numberIn (answerOf answer) ⌝ }
+{
+    match answer {
+        Stepping::AreaTooLong => 1,
+        Stepping::WorkTooShort => 2,
+        Stepping::LengthTooLong => 3,
+        Stepping::Unread(reading) => reading::number(reading),
+        Stepping::Normal(_) => 0,
+        Stepping::NoRoom(_) => 0,
+        Stepping::Done(_, _) => 0,
+    }
+}
+
+// The place of a refusal, 0 of an answer.
+pub fn place(answer: Stepping) -> usize
+    ensures { λ r. ⌜ r ≡ placeIn (answerOf answer) ⌝ }
+{
+    match answer {
+        Stepping::AreaTooLong => 0,
+        Stepping::WorkTooShort => 0,
+        Stepping::LengthTooLong => 0,
+        Stepping::Unread(reading) => reading::place(reading),
+        Stepping::Normal(_) => 0,
+        Stepping::NoRoom(_) => 0,
+        Stepping::Done(_, _) => 0,
+    }
 }
 
 // Zeros behind the term, which takes the first `size` bytes, and in the whole work area.
@@ -60,21 +87,20 @@ fn put_back(area: &mut [u8], size: usize, work: &mut [u8])
 // One step of the term in the first `len` bytes, or what keeps it from one.
 fn advance(area: &mut [u8], len: usize, work: &mut [u8]) -> Stepping
     requires { ⌜ (len ≤ length (now area)) × (length (now area) ≤ length (now work)) ⌝ }
-    ensures { λ r. ⌜ ((h : Begins (now (area .entry)) len)
-        → After.after (answerOf r) (now (area .exit)) (now (work .exit))
-        ≡ stepNext (h .term) (next (h .term)) (now (area .entry)) (now (work .entry))) ⌝ }
+    ensures { λ r. ⌜ ((t : Term) → Holds (now (area .entry)) len t
+        → After.after (answerOf r) (now (area .exit)) (now (work .exit)) ≡ stepNext t (next t) (now (area .entry)) (now (work .entry))) ⌝ }
 {
-    let p = redex(area, len);
+    let p = redex(&area[..len]);
     if p == len {
         clear(area, len, work);
         return Stepping::Normal(len);
     }
-    let w = rewrite_at(area, p);
+    let w = rewrite_at(&area[..len], p);
     if area.len() - len < growth(w) {
         clear(area, len, work);
         return Stepping::NoRoom(len);
     }
-    let size = write(area, len, w, work);
+    let size = write(&area[..len], w, work);
     put_back(area, size, work);
     Stepping::Done(w.rule, size)
 }
@@ -83,7 +109,7 @@ fn advance(area: &mut [u8], len: usize, work: &mut [u8]) -> Stepping
 pub fn step(area: &mut [u8], len: usize, work: &mut [u8]) -> Stepping
     ensures { λ r. ⌜ After.after (answerOf r) (now (area .exit)) (now (work .exit)) ≡ steppingOf (now (area .entry)) len (now (work .entry)) ⌝ }
 {
-    if 16384 < area.len() {
+    if calculus::AREA_LIMIT < area.len() {
         return Stepping::AreaTooLong;
     }
     if work.len() < area.len() {

@@ -194,7 +194,9 @@ end-bounds s from h = go (behindSimple 1 (drop from s)) refl
         (omega (arith, size), omega arith)
 
 -- what is owed behind a simple type is owed from its end on
-pub owed-end : (context : Bool) (s : List ℕ) (from : ℕ) → owes 0 context [] ≡ false → owes 1 context (drop from s) ≡ owes 0 context (drop (simpleEnd s from) s)
+pub owed-end :
+    (context : Bool) (s : List ℕ) (from : ℕ) → owes 0 context [] ≡ false →
+    owes 1 context (drop from s) ≡ owes 0 context (drop (simpleEnd s from) s)
 unfolding simpleEnd
 owed-end context s from nothing = owed-rest 1 context (drop from s) ∙ go (behindSimple 1 (drop from s)) refl
   where

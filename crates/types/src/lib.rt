@@ -1,4 +1,5 @@
 // Scanning types on bytes.
+use calculus::marks;
 ghost use mathlib.Core.Path.{_≡_};
 ghost use Rattle.types.specs.Parse.{typeOf, contextOf};
 ghost use Rattle.types.specs.Tests.{isSome, isSimple};
@@ -27,10 +28,10 @@ pub fn is_context(s: &[u8]) -> bool
 {
     let mut at = 0;
     while at < s.len() {
-        if s[at] == 49 {
+        if s[at] == marks::EMPTY {
             return at + 1 == s.len();
         }
-        if s[at] != 42 {
+        if s[at] != marks::BIND {
             return false;
         }
         at = simple_end(s, at + 1);
@@ -49,7 +50,7 @@ pub fn simple_end(s: &[u8], from: usize) -> usize
             return s.len() + 1;
         }
         let parts = parts_of(s[at]);
-        if parts == 3 {
+        if parts == NO_SIGN {
             return s.len() + 1;
         }
         owed = owed - 1 + parts;
@@ -58,18 +59,21 @@ pub fn simple_end(s: &[u8], from: usize) -> usize
     at
 }
 
-// How many simple types the sign takes to make one; 3 for a byte that begins no simple type.
+// What stands in the place of a number of parts for a byte that begins no simple type.
+const NO_SIGN: usize = 3;
+
+// How many simple types the sign takes to make one; `NO_SIGN` for a byte that begins no simple type.
 fn parts_of(b: u8) -> usize
     ensures { λ r. ⌜ r ≡ partsOf b ⌝ }
 {
-    if b == 62 {
+    if b == marks::ARROW {
         return 2;
     }
-    if b < 97 {
-        return 3;
+    if b < marks::FIRST_ATOM {
+        return NO_SIGN;
     }
-    if 122 < b {
-        return 3;
+    if marks::LAST_ATOM < b {
+        return NO_SIGN;
     }
     0
 }

@@ -1,12 +1,14 @@
-//! Megabytes a second in checking derivation files of nearly 65,536 bytes.
+//! Derivation files of nearly 65,536 bytes: how long their checking takes.
 
-use crate::engine;
-use crate::table::{number, ratio, Table};
+use crate::table::{number, Table};
 use crate::timing::shortest;
-use harness::check_tests::doubling;
+use engine::Linked;
+use harness::check_tests::{dear, doubling, lines_of};
 use harness::damage::split;
 use harness::derivations::{file_of_all, some, Derivation, Layout};
 use harness::random::Random;
+use harness::reply::{pack, ACCEPTED};
+use harness::subject::Controller;
 
 const LAYOUT: Layout = Layout { shared: true, second_first: false };
 
@@ -28,10 +30,6 @@ fn many_lines() -> Vec<u8> {
     file
 }
 
-fn lines_of(file: &[u8]) -> usize {
-    file.iter().filter(|&&byte| byte == b'\n').count()
-}
-
 /// Terms that double from line to line, and a last line that applies the last to the one before.
 fn large_terms() -> Vec<u8> {
     let file = doubling(14);
@@ -40,35 +38,31 @@ fn large_terms() -> Vec<u8> {
     [&file[..], &added].concat()
 }
 
-/// Bytes in nanoseconds, as megabytes in a second.
-fn megabytes(size: usize, time: f64) -> f64 {
-    size as f64 / time * 1e3
-}
-
 fn row(name: &str, file: &[u8]) -> Vec<String> {
-    let lines = second::checking::check(file).expect("the file is accepted").len();
-    let check = |_: &mut ()| {
-        second::checking::check(file).expect("the file is accepted");
-    };
-    let second = megabytes(file.len(), shortest(|| (), check));
-    let check =
-        |_: &mut ()| assert_eq!(engine::check(file), 120 | (lines as u64) << 8, "the engine accepts the file");
-    let engine = engine::IS_LINKED.then(|| megabytes(file.len(), shortest(|| (), check)));
+    let second = shortest(|| (), |_| drop(second::checking::check(file).expect("the file is accepted")));
+    let accepted = pack(ACCEPTED, lines_of(file) as u64, 0);
+    let engine = shortest(|| (), |_| assert_eq!(Linked.check(file), accepted, "the engine accepts the file"));
+    let milliseconds = |time: f64| number(time / 1e6);
+    let megabytes = |time: f64| number(file.len() as f64 / time * 1e3);
     vec![
         name.to_string(),
         file.len().to_string(),
-        lines.to_string(),
-        number(engine),
-        number(Some(second)),
-        ratio(engine, Some(second)),
+        lines_of(file).to_string(),
+        milliseconds(engine),
+        milliseconds(second),
+        megabytes(engine),
+        megabytes(second),
     ]
 }
 
 pub fn table() -> Table {
-    let heads = ["derivation file", "bytes", "lines", "engine", "Rust", "engine/Rust"];
-    Table {
-        title: "Megabytes a second in checking".to_string(),
-        heads: heads.map(String::from).to_vec(),
-        rows: vec![row("generated derivations", &many_lines()), row("terms that double", &large_terms())],
-    }
+    Table::new(
+        "Checking: milliseconds a file, and megabytes a second",
+        &["derivation file", "bytes", "lines", "engine, ms", "Rust, ms", "engine, MB/s", "Rust, MB/s"],
+        vec![
+            row("generated derivations", &many_lines()),
+            row("terms that double", &large_terms()),
+            row("short lines that cite two long ones", &dear()),
+        ],
+    )
 }

@@ -1,32 +1,46 @@
 //! Times the engine and the second implementation side by side, in one run on one machine.
 //!
+//!   bench [PICTURE.svg]    every table, and a chart where a path is given
+//!   bench --dear           the calls that cost most, among them a run of 1,000,000 steps: some minutes
+//!
 //! Both are built for release. Each call starts from the term with zeros behind it and a zeroed work area.
 
+mod chart;
 mod checking;
-mod engine;
-mod nesting;
-mod picture;
+mod dear;
+mod growth;
 mod reducing;
 mod stack;
 mod table;
 mod terms;
 mod timing;
 
-use table::Table;
+use reducing::Timed;
 
-fn tables() -> Vec<Table> {
-    let runs: Vec<reducing::Timed> = terms::cases().iter().map(reducing::time).collect();
-    vec![reducing::table(&runs), nesting::table(&runs), checking::table(), stack::table()]
+fn everything(picture: Option<String>) {
+    let programs: Vec<Timed> = terms::programs().iter().map(reducing::time).collect();
+    let nested: Vec<Timed> = terms::nested().iter().map(reducing::time).collect();
+    let tables = [
+        reducing::table(&programs, &nested),
+        growth::table(&nested),
+        checking::table(),
+        stack::table(),
+        dear::table(dear::STEPS),
+    ];
+    for table in tables {
+        println!("{}", table.text());
+    }
+    if let Some(path) = picture {
+        std::fs::write(&path, chart::svg(&nested)).expect("the picture can be written");
+        println!("picture: {path}");
+    }
 }
 
 fn run() {
-    let tables = tables();
-    for table in &tables {
-        println!("{}", table.text());
-    }
-    if let Some(path) = std::env::args().nth(1) {
-        std::fs::write(&path, picture::svg(&tables)).expect("the picture can be written");
-        println!("picture: {path}");
+    println!("{}\n", timing::METHOD);
+    match std::env::args().nth(1) {
+        Some(word) if word == "--dear" => println!("{}", dear::table(dear::MOST_STEPS).text()),
+        picture => everything(picture),
     }
 }
 

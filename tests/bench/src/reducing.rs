@@ -1,31 +1,33 @@
 //! Nanoseconds a step, in whole runs and in single calls of stepping.
 
-use crate::engine;
-use crate::table::{number, ratio, Table};
-use crate::terms::{Case, AREA};
+use crate::table::{number, Table};
+use crate::terms::{nested_name, Case, AREA, LARGE, NESTED, SMALL};
 use crate::timing::shortest;
+use engine::Linked;
+use harness::reply::value;
+use harness::subject::Controller;
 use second::finishing;
 use second::machine::Machine;
 use second::plain::Plain;
 use second::stepping::{self, Reducer};
 
-/// The times of one case, in nanoseconds; none for the engine where it is not linked.
+/// The times of one case, in nanoseconds.
 pub struct Timed {
     pub case: Case,
     pub steps: u64,
     /// For each step of a whole run.
-    pub engine: Option<f64>,
+    pub engine: f64,
     pub tree: f64,
-    pub machine: f64,
+    pub arena: f64,
     /// For a call of stepping on the first term.
-    pub engine_step: Option<f64>,
-    pub machine_step: f64,
+    pub engine_step: f64,
+    pub arena_step: f64,
 }
 
 /// A term area and a work area.
-type Areas = (Vec<u8>, Vec<u8>);
+pub type Areas = (Vec<u8>, Vec<u8>);
 
-fn areas(text: &[u8]) -> Areas {
+pub fn areas(text: &[u8]) -> Areas {
     let mut area = text.to_vec();
     area.resize(AREA, 0);
     (area, vec![0; AREA])
@@ -44,22 +46,22 @@ fn second_finish<R: Reducer>(case: &Case) -> f64 {
     shortest(|| areas(&case.text), call)
 }
 
-fn engine_finish(case: &Case, steps: u64) -> Option<f64> {
+fn engine_finish(case: &Case, steps: u64) -> f64 {
     let call = |areas: &mut Areas| {
-        let reply = engine::finish(&mut areas.0, case.text.len(), &mut areas.1, case.fuel);
-        assert_eq!(reply >> 8 & 0xff_ffff, steps, "{}: the engine makes as many steps", case.name);
+        let reply = Linked.finish(&mut areas.0, case.text.len(), &mut areas.1, case.fuel);
+        assert_eq!(value(reply), steps, "{}: the engine makes as many steps", case.name);
     };
-    engine::IS_LINKED.then(|| shortest(|| areas(&case.text), call))
+    shortest(|| areas(&case.text), call)
 }
 
-fn engine_step(case: &Case) -> Option<f64> {
+fn engine_step(case: &Case) -> f64 {
     let call = |areas: &mut Areas| {
-        engine::step(&mut areas.0, case.text.len(), &mut areas.1);
+        Linked.step(&mut areas.0, case.text.len(), &mut areas.1);
     };
-    engine::IS_LINKED.then(|| shortest(|| areas(&case.text), call))
+    shortest(|| areas(&case.text), call)
 }
 
-fn machine_step(case: &Case) -> f64 {
+fn arena_step(case: &Case) -> f64 {
     let call = |areas: &mut Areas| {
         stepping::step::<Machine>(&mut areas.0, case.text.len(), &mut areas.1).expect("a case is not refused");
     };
@@ -72,12 +74,18 @@ pub fn time(case: &Case) -> Timed {
     Timed {
         case: case.clone(),
         steps,
-        engine: engine_finish(case, steps).map(each),
+        engine: each(engine_finish(case, steps)),
         tree: each(second_finish::<Plain>(case)),
-        machine: each(second_finish::<Machine>(case)),
+        arena: each(second_finish::<Machine>(case)),
         engine_step: engine_step(case),
-        machine_step: machine_step(case),
+        arena_step: arena_step(case),
     }
+}
+
+/// The timed case of a nested shape at a size.
+pub fn at_size<'a>(nested: &'a [Timed], name: &str, letters: usize) -> &'a Timed {
+    let full = nested_name(name, letters);
+    nested.iter().find(|timed| timed.case.name == full).expect("each nested case was timed")
 }
 
 fn row(timed: &Timed) -> Vec<String> {
@@ -86,31 +94,32 @@ fn row(timed: &Timed) -> Vec<String> {
         timed.case.text.len().to_string(),
         timed.steps.to_string(),
         number(timed.engine),
-        number(Some(timed.tree)),
-        number(Some(timed.machine)),
-        ratio(timed.engine, Some(timed.tree)),
-        ratio(timed.engine, Some(timed.machine)),
+        number(timed.tree),
+        number(timed.arena),
+        number(timed.engine / timed.tree),
+        number(timed.engine / timed.arena),
         number(timed.engine_step),
-        number(Some(timed.machine_step)),
+        number(timed.arena_step),
     ]
 }
 
-pub fn table(runs: &[Timed]) -> Table {
+pub fn table(programs: &[Timed], nested: &[Timed]) -> Table {
     let heads = [
         "term",
         "letters",
         "steps",
         "engine",
         "Rust tree",
-        "Rust fast",
+        "Rust arena",
         "engine/tree",
-        "engine/fast",
-        "one step: engine",
-        "Rust fast",
+        "engine/arena",
+        "one call: engine",
+        "Rust arena",
     ];
-    Table {
-        title: "Nanoseconds a step: whole runs in an area of 16,384 bytes, and one call of stepping".to_string(),
-        heads: heads.map(String::from).to_vec(),
-        rows: runs.iter().map(row).collect(),
-    }
+    let large = NESTED.iter().flat_map(|(name, _)| [SMALL, LARGE].map(|letters| at_size(nested, name, letters)));
+    Table::new(
+        "Nanoseconds a step: whole runs in an area of 16,384 bytes, and one call of stepping",
+        &heads,
+        programs.iter().chain(large).map(row).collect(),
+    )
 }

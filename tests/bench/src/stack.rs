@@ -1,14 +1,15 @@
 //! How much stack the engine uses: a thread's stack is painted first, and looked through afterwards.
 
-use crate::engine;
 use crate::table::Table;
-use harness::check_tests::doubling;
+use engine::Linked;
+use harness::check_tests::{dear, doubling};
 use harness::deep::deep_terms;
+use harness::memory::Pages;
+use harness::subject::Controller;
+use second::comparing::Lent;
 use std::ffi::c_void;
 
 extern "C" {
-    fn mmap(start: *mut u8, size: usize, protection: i32, flags: i32, file: i32, offset: i64) -> *mut u8;
-    fn munmap(start: *mut u8, size: usize) -> i32;
     fn pthread_attr_init(attributes: *mut Attributes) -> i32;
     fn pthread_attr_setstack(attributes: *mut Attributes, start: *mut u8, size: usize) -> i32;
     fn pthread_create(
@@ -28,8 +29,6 @@ type Work = Box<dyn FnMut() + Send>;
 
 const STACK: usize = 32 << 20;
 const PAINT: u8 = 0xa5;
-const READ_WRITE: i32 = 3;
-const PRIVATE_ANONYMOUS: i32 = 0x02 | 0x20;
 
 extern "C" fn body(work: *mut c_void) -> *mut c_void {
     let work = work.cast::<Work>();
@@ -39,63 +38,84 @@ extern "C" fn body(work: *mut c_void) -> *mut c_void {
 
 /// The bytes of stack that were written while the work ran on a thread of its own.
 fn used_by(mut work: Work) -> usize {
+    let mut pages = Pages::zeroed(STACK).expect("a stack can be had");
+    let stack = pages.bytes();
+    stack.fill(PAINT);
     unsafe {
-        let start = mmap(std::ptr::null_mut(), STACK, READ_WRITE, PRIVATE_ANONYMOUS, -1, 0);
-        assert_ne!(start as isize, -1, "a stack can be had");
-        std::ptr::write_bytes(start, PAINT, STACK);
         let mut attributes = Attributes([0; 128]);
         let (mut thread, mut result) = (0, std::ptr::null_mut());
         assert_eq!(pthread_attr_init(&mut attributes), 0, "attributes");
-        assert_eq!(pthread_attr_setstack(&mut attributes, start, STACK), 0, "the stack is taken");
-        assert_eq!(pthread_create(&mut thread, &attributes, body, (&raw mut work).cast()), 0, "a thread starts");
+        assert_eq!(pthread_attr_setstack(&mut attributes, stack.as_mut_ptr(), STACK), 0, "the stack is taken");
+        assert_eq!(
+            pthread_create(&mut thread, &attributes, body, std::ptr::addr_of_mut!(work).cast()),
+            0,
+            "a thread starts"
+        );
         assert_eq!(pthread_join(thread, &mut result), 0, "the thread ends");
-        let stack = std::slice::from_raw_parts(start, STACK);
-        let painted = stack.iter().position(|&byte| byte != PAINT).unwrap_or(STACK);
-        munmap(start, STACK);
-        STACK - painted
     }
+    let painted = stack.iter().position(|&byte| byte != PAINT).unwrap_or(STACK);
+    STACK - painted
 }
 
 /// The stack that a call uses beyond a thread that does nothing.
-fn used(work: impl FnMut() + Send + 'static) -> usize {
+fn used(work: impl FnMut() + Send + 'static) -> String {
     let empty = used_by(Box::new(|| {}));
-    used_by(Box::new(work)).saturating_sub(empty)
+    used_by(Box::new(work)).saturating_sub(empty).to_string()
 }
 
-fn finish_row(name: &str, text: Vec<u8>) -> Vec<String> {
-    let (size, letters) = (text.len(), text.len().to_string());
-    let step = {
-        let (mut area, mut work) = (text.clone(), vec![0; size]);
-        used(move || {
-            engine::step(&mut area, size, &mut work);
-        })
-    };
-    let (mut area, mut work) = (text, vec![0; size]);
-    let finish = used(move || {
-        engine::finish(&mut area, size, &mut work, 50);
-    });
-    vec![name.to_string(), letters, step.to_string(), finish.to_string()]
+fn reading(text: Vec<u8>) -> String {
+    used(move || {
+        Linked.read(&text);
+    })
 }
 
-fn check_row() -> Vec<String> {
-    let file = doubling(14);
-    let size = file.len().to_string();
-    let check = used(move || {
-        engine::check(&file);
+fn stepping(mut area: Vec<u8>) -> String {
+    let mut work = vec![0; area.len()];
+    used(move || {
+        Linked.step(&mut area, work.len(), &mut work);
+    })
+}
+
+fn finishing(mut area: Vec<u8>) -> String {
+    let mut work = vec![0; area.len()];
+    used(move || {
+        Linked.finish(&mut area, work.len(), &mut work, 50);
+    })
+}
+
+fn comparing(mut first: Vec<u8>) -> String {
+    let (mut second, mut work) = (first.clone(), vec![0; first.len()]);
+    used(move || {
+        let (one, two) =
+            (Lent { length: first.len(), area: &mut first }, Lent { length: second.len(), area: &mut second });
+        Linked.compare(one, two, &mut work, 50);
+    })
+}
+
+fn term_row(name: &str, text: Vec<u8>) -> Vec<String> {
+    let letters = text.len().to_string();
+    let used = [reading(text.clone()), stepping(text.clone()), finishing(text.clone()), comparing(text)];
+    [name.to_string(), letters].into_iter().chain(used).collect()
+}
+
+fn file_row(name: &str, file: Vec<u8>) -> Vec<String> {
+    let (bytes, other) = (file.len().to_string(), file.clone());
+    let checking = used(move || {
+        Linked.check(&file);
     });
-    vec!["checking terms that double".to_string(), size, "-".to_string(), check.to_string()]
+    let matching = used(move || {
+        Linked.match_claims(&other, &other);
+    });
+    vec![name.to_string(), bytes, "-".to_string(), "-".to_string(), checking, matching]
 }
 
 pub fn table() -> Table {
-    let heads = ["term", "letters", "stepping", "finishing or checking"];
-    let mut rows = vec![];
-    if engine::IS_LINKED {
-        rows = deep_terms().into_iter().map(|(name, text)| finish_row(name, text)).collect();
-        rows.push(check_row());
-    }
-    Table {
-        title: "Bytes of stack that the engine uses".to_string(),
-        heads: heads.map(String::from).to_vec(),
+    let mut rows: Vec<Vec<String>> = deep_terms().into_iter().map(|(name, text)| term_row(name, text)).collect();
+    rows.push(file_row("file: terms that double", doubling(14)));
+    rows.push(file_row("file: short lines that cite two long ones", dear()));
+    Table::new(
+        "Bytes of stack that a call of the engine uses",
+        &["term or file", "bytes", "reading", "stepping", "finishing or checking", "comparing or matching"],
         rows,
-    }
+    )
 }

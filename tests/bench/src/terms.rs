@@ -1,6 +1,6 @@
 //! The terms that are timed.
 
-use harness::terms::{index, joined, repeated};
+use harness::terms::{index, joined, repeated, twice_nested};
 
 pub const AREA: usize = 16_384;
 
@@ -43,8 +43,21 @@ fn nested_changes(times: usize) -> Vec<u8> {
     joined(&[&functions, &change(0)])
 }
 
-/// Terms nested to the left or to the right, of 4,000 and of 16,000 letters: (name, text of so many nodes).
-pub const NESTED: [(&str, fn(usize) -> Vec<u8>); 6] = [
+/// Terms of the kind that pieces are.
+pub fn programs() -> Vec<Case> {
+    vec![
+        case("an iterator of 1,000 uses", iterator(1_000)),
+        case("288 pairs under 12 places", long_chain()),
+        case("60 changes, nested", nested_changes(60)),
+        Case { name: ".AIHJJAIHJJ".to_string(), text: b".AIHJJAIHJJ".to_vec(), fuel: 100_000 },
+    ]
+}
+
+/// A shape's name, and its text of so many letters and one more.
+type Shape = (&'static str, fn(usize) -> Vec<u8>);
+
+/// Terms nested to the left or to the right.
+pub const NESTED: [Shape; 6] = [
     ("left, .^k I^(k+1)", |letters| joined(&[&repeated(".", letters / 2), &repeated("I", letters / 2 + 1)])),
     ("left, .^k J^(k+1)", |letters| joined(&[&repeated(".", letters / 2), &repeated("J", letters / 2 + 1)])),
     ("right, (.I)^k J", |letters| joined(&[&repeated(".I", letters / 2), b"J"])),
@@ -53,6 +66,8 @@ pub const NESTED: [(&str, fn(usize) -> Vec<u8>); 6] = [
     ("(.BII)^k J", |letters| joined(&[&repeated(".BII", letters / 4), b"J"])),
 ];
 
+/// The sizes of the nested terms: all of them in the chart, the last two in the tables.
+pub const SIZES: [usize; 5] = [64, 256, 1_000, SMALL, LARGE];
 pub const SMALL: usize = 4_000;
 pub const LARGE: usize = 16_000;
 
@@ -60,17 +75,13 @@ pub fn nested_name(name: &str, letters: usize) -> String {
     format!("{name}, {letters}")
 }
 
-pub fn cases() -> Vec<Case> {
-    let mut cases = vec![
-        case("an iterator of 1,000 uses", iterator(1_000)),
-        case("288 pairs under 12 places", long_chain()),
-        case("60 changes, nested", nested_changes(60)),
-        Case { name: ".AIHJJAIHJJ".to_string(), text: b".AIHJJAIHJJ".to_vec(), fuel: 100_000 },
-    ];
-    for (name, text) in NESTED {
-        for letters in [SMALL, LARGE] {
-            cases.push(case(&nested_name(name, letters), text(letters)));
-        }
-    }
-    cases
+pub fn nested() -> Vec<Case> {
+    let of_size = |letters| NESTED.map(|(name, text)| case(&nested_name(name, letters), text(letters)));
+    SIZES.into_iter().flat_map(of_size).collect()
+}
+
+/// More than a million steps beside a pair that each of them looks through: an index of 11,000 in it, and a
+/// closure used twice, 16 times around an identity, which takes up to 4,000 letters.
+pub fn dear_run() -> Vec<u8> {
+    joined(&[b".B", &index(11_000), b"I", &twice_nested(16)])
 }

@@ -22,7 +22,7 @@ pub fn within_limits(file: &[u8]) -> bool {
     file.len() <= 65_536 && lines_of(file) <= 1_024
 }
 
-fn lines_of(file: &[u8]) -> usize {
+pub fn lines_of(file: &[u8]) -> usize {
     file.iter().filter(|&&byte| byte == b'\n').count()
 }
 
@@ -173,6 +173,39 @@ fn large_terms(subject: &dyn Controller) -> Outcome {
     Ok(())
 }
 
+/// The most lines that a file may have, and nearly the most bytes: lines of 18 bytes, each of which cites
+/// line 4, of the context type D, and line 5, in the context D. D has 11,781 letters, and each line looks at both.
+pub fn dear() -> Vec<u8> {
+    let simple = [repeated(">", 2_944), repeated("a", 2_945)].concat();
+    let arrow = [b">", &simple[..], &simple].concat();
+    let long: [&[&[u8]]; 5] = [
+        &[b"1\tI\t1\tI\t-\t-\n"],
+        &[b"*", &simple, b"1\tJ\t", &simple, b"\tJ\t-\t-\n"],
+        &[b"1\tAIJ\t", &arrow, b"\tA\t1\t2\n"],
+        &[b"1\tBAIJI\t*", &arrow, b"1\tB\t3\t1\n"],
+        &[b"*", &arrow, b"1\tI\t1\tI\t-\t-\n"],
+    ];
+    let long: Vec<u8> = long.into_iter().flatten().copied().flatten().copied().collect();
+    [long, repeated("1\t.BAIJII\t1\ts\t4\t5\n", 1_019)].concat()
+}
+
+/// The dear file, whole, with its long context changed in one letter, and with its last line changed.
+fn dear_files(subject: &dyn Controller) -> Outcome {
+    let file = dear();
+    demand_check(subject, &file, from_words("accepted 1024", 0))?;
+    let lines = split(&file);
+    let mut other = lines.clone();
+    let last_letter = other[4][0].len() - 2;
+    other[4][0][last_letter] = b'b';
+    demand_check(subject, &join(&other), from_words("18@6", 0))?;
+    let mut other = lines.clone();
+    other[1_023][5] = b"1".to_vec();
+    demand_check(subject, &join(&other), from_words("18@1024", 0))?;
+    let mut other = lines;
+    other[1_023][5] = b"1024".to_vec();
+    demand_check(subject, &join(&other), from_words("17@1024", 0))
+}
+
 /// A line whose premise numbers have one to four digits.
 fn many_lines(subject: &dyn Controller) -> Outcome {
     for earlier in [1, 8, 9, 10, 11, 99, 100, 101, 999, 1_000, 1_001, 1_023] {
@@ -189,18 +222,23 @@ fn many_lines(subject: &dyn Controller) -> Outcome {
     Ok(())
 }
 
-/// Files whose replies are known: by hand, or because they are made from a derivation.
+/// Files whose replies are written by hand.
 pub fn known(suite: &mut Suite, label: &str, subject: impl Controller) {
     for row in rows() {
         let name = format!("{label} checking: {}", row.name);
         suite.test(&name, || demand_check(&subject, &row.file, from_words(&row.reply, 0)));
     }
+}
+
+/// Files whose replies follow from how they are made: out of a derivation, or of many lines.
+pub fn made(suite: &mut Suite, label: &str, subject: impl Controller) {
     let mut test = |name: &str, body: &dyn Fn(&dyn Controller) -> Outcome| {
         suite.test(&format!("{label} checking: {name}"), || body(&subject));
     };
     test("generated derivations are accepted", &generated);
     test("derivations after each step are accepted", &stepped);
     test("large terms", &large_terms);
+    test("files that are dear to check", &dear_files);
     test("premise numbers of one to four digits", &many_lines);
 }
 

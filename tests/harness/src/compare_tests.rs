@@ -4,22 +4,13 @@ use crate::changes::{backwards, forwards};
 use crate::damage::damaged;
 use crate::lent::{demand_pair, predict_pair, Pair};
 use crate::random::Random;
-use crate::reply::{refusal_in, DIFFERENT, SAME, UNDECIDED};
+use crate::reply::{code, from_words, DIFFERENT, SAME};
 use crate::step_tests::padded;
-use crate::subject::{Answer, Probe};
+use crate::subject::Controller;
 use crate::suite::{Outcome, Suite};
 use crate::table::comparing::{rows, Row};
 use crate::terms::{all_of_size, random_of_size};
 use second::term::Term;
-
-fn answer(words: &str) -> Answer {
-    match words {
-        "same" => (SAME, 0),
-        "different" => (DIFFERENT, 0),
-        "undecided" => (UNDECIDED, 0),
-        _ => refusal_in(words).expect("a row's answer is a verdict or a refusal"),
-    }
-}
 
 /// The term in an area of the given size, cut where it is longer.
 fn in_area(term: &str, size: usize) -> Vec<u8> {
@@ -28,11 +19,11 @@ fn in_area(term: &str, size: usize) -> Vec<u8> {
     area
 }
 
-fn by_hand(subject: &dyn Probe, row: &Row) -> Outcome {
+fn by_hand(subject: &dyn Controller, row: &Row) -> Outcome {
     let [first, second] = [0, 1].map(|place| in_area(row.terms[place], row.areas[place]));
     let (first_term, second_term) = (row.terms[0].len(), row.terms[1].len());
     let pair = Pair { first, first_term, second, second_term, work: vec![b'w'; row.work], fuel: row.fuel };
-    let lent = match row.answer.contains('@') {
+    let lent = match row.reply.contains('@') {
         true => [pair.first.clone(), pair.second.clone(), pair.work.clone()],
         false => [
             padded(row.after[0].as_bytes(), row.areas[0]),
@@ -40,10 +31,10 @@ fn by_hand(subject: &dyn Probe, row: &Row) -> Outcome {
             vec![0; row.work],
         ],
     };
-    demand_pair(subject, &pair, &(answer(row.answer), lent))
+    demand_pair(subject, &pair, &(from_words(row.reply, 0), lent))
 }
 
-fn agree(subject: &dyn Probe, pair: &Pair) -> Outcome {
+fn agree(subject: &dyn Controller, pair: &Pair) -> Outcome {
     demand_pair(subject, pair, &predict_pair(pair))
 }
 
@@ -55,7 +46,7 @@ fn pair_of(random: &mut Random, first: &[u8], second: &[u8], rooms: [usize; 2], 
 }
 
 /// Every pair of terms of up to three letters.
-fn small_pairs(subject: &dyn Probe) -> Outcome {
+fn small_pairs(subject: &dyn Controller) -> Outcome {
     let mut random = Random::new(21);
     let texts: Vec<Vec<u8>> = (1..=3).flat_map(all_of_size).map(|term| term.text()).collect();
     for first in &texts {
@@ -84,17 +75,17 @@ fn joined_terms(random: &mut Random) -> [Term; 2] {
 }
 
 /// Terms that can be turned into each other are never different.
-fn joined_pairs(subject: &dyn Probe) -> Outcome {
+fn joined_pairs(subject: &dyn Controller) -> Outcome {
     let mut random = Random::new(22);
     let mut same = 0;
     for _ in 0..4_000 {
         let [first, second] = joined_terms(&mut random).map(|term| term.text());
         let pair = pair_of(&mut random, &first, &second, [300, 300], 400);
         let expected = predict_pair(&pair);
-        if expected.0 .0 == DIFFERENT {
+        if code(expected.0) == DIFFERENT {
             return Err("the second reducer calls joined terms different".to_string());
         }
-        same += usize::from(expected.0 .0 == SAME);
+        same += usize::from(code(expected.0) == SAME);
         demand_pair(subject, &pair, &expected)?;
     }
     if same < 1_000 {
@@ -103,7 +94,7 @@ fn joined_pairs(subject: &dyn Probe) -> Outcome {
     Ok(())
 }
 
-fn random_pairs(subject: &dyn Probe) -> Outcome {
+fn random_pairs(subject: &dyn Controller) -> Outcome {
     let mut random = Random::new(23);
     for _ in 0..6_000 {
         let [first, second] = [0; 2].map(|_| {
@@ -117,7 +108,7 @@ fn random_pairs(subject: &dyn Probe) -> Outcome {
     Ok(())
 }
 
-fn damaged_pairs(subject: &dyn Probe) -> Outcome {
+fn damaged_pairs(subject: &dyn Controller) -> Outcome {
     let mut random = Random::new(24);
     for _ in 0..10_000 {
         let mut texts = [0; 2].map(|_| {
@@ -136,7 +127,7 @@ fn damaged_pairs(subject: &dyn Probe) -> Outcome {
 }
 
 /// Every mixture of sizes, lengths, fuels and letters near the limits, for both terms.
-fn edges(subject: &dyn Probe) -> Outcome {
+fn edges(subject: &dyn Controller) -> Outcome {
     let good = [(1, 1, b'J'), (3, 1, b'J'), (16_384, 1, b'J')];
     let bad_lengths = [(3, 4, b'J'), (16_385, 1, b'J'), (3, usize::MAX, b'J')];
     let bad_texts = [(3, 2, b'x'), (0, 0, b'J'), (2, 2, b'R'), (2, 2, b'J')];
@@ -155,15 +146,15 @@ fn edges(subject: &dyn Probe) -> Outcome {
     Ok(())
 }
 
-/// Pairs whose answers are written by hand.
-pub fn known(suite: &mut Suite, label: &str, subject: impl Probe) {
+/// Pairs whose replies are written by hand.
+pub fn known(suite: &mut Suite, label: &str, subject: impl Controller) {
     for row in rows() {
         suite.test(&format!("{label} comparing: {}", row.name), || by_hand(&subject, &row));
     }
 }
 
-/// Pairs whose answers the plain reducer predicts.
-pub fn predicted(suite: &mut Suite, label: &str, subject: impl Probe) {
+/// Pairs whose replies the plain reducer predicts.
+pub fn predicted(suite: &mut Suite, label: &str, subject: impl Controller) {
     suite.test(&format!("{label} comparing: refusals at their edges"), || edges(&subject));
     suite.test(&format!("{label} comparing: every pair of terms of up to 3 letters"), || small_pairs(&subject));
     suite.test(&format!("{label} comparing: terms joined by changes"), || joined_pairs(&subject));

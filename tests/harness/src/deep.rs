@@ -1,24 +1,26 @@
-//! Terms and files nested as deep as the limits allow, each call on a stack of 2 MB.
+//! Terms and files nested deep, each call on a thread with the stack that docs/FIRMWARE.md advises.
 
 use crate::lent::*;
 use crate::reply::from_words;
 use crate::step_tests::padded;
-use crate::subject::{Controller, Probe, Second};
+use crate::subject::Controller;
 use crate::suite::{Outcome, Suite};
 use crate::table::{checking, reading};
 use crate::terms::{index, joined, repeated};
-use second::plain::Plain;
 
-/// Runs a test on a thread with a stack of 2 MB.
-pub fn on_small_stack(body: impl FnOnce() -> Outcome + Send) -> Outcome {
+/// The bytes of stack that the firmware's page advises: 1 MB.
+pub const ADVISED_STACK: usize = 1 << 20;
+
+/// Runs a test on a thread with the advised stack.
+pub fn on_advised_stack(body: impl FnOnce() -> Outcome + Send) -> Outcome {
     std::thread::scope(|scope| {
-        let thread = std::thread::Builder::new().stack_size(2 << 20).spawn_scoped(scope, body);
+        let thread = std::thread::Builder::new().stack_size(ADVISED_STACK).spawn_scoped(scope, body);
         let joined = thread.map_err(|error| error.to_string())?.join();
         joined.unwrap_or_else(|_| Err("the call panicked".to_string()))
     })
 }
 
-/// Deep terms of 16,384 letters or nearly so: (name, text).
+/// Deep terms, most of them of nearly 16,384 letters: (name, text).
 pub fn deep_terms() -> Vec<(&'static str, Vec<u8>)> {
     let nested = |start: &str, times: usize, end: &str, ends: usize| {
         joined(&[&repeated(start, times), &repeated(end, ends)])
@@ -56,13 +58,13 @@ fn call(text: &[u8], area: usize) -> Call {
 fn one_step(subject: impl Controller + Sync, text: &[u8], area: usize) -> Outcome {
     let call = call(text, area);
     let expected = predict_plain(&call, None);
-    on_small_stack(|| demand(&subject, &call, None, &expected))
+    on_advised_stack(|| demand(&subject, &call, None, &expected))
 }
 
 fn whole_run(subject: impl Controller + Sync, text: &[u8], area: usize, fuel: u64, predict: Predict) -> Outcome {
     let call = call(text, area);
     let expected = predict(&call, Some(fuel));
-    on_small_stack(|| demand(&subject, &call, Some(fuel), &expected))
+    on_advised_stack(|| demand(&subject, &call, Some(fuel), &expected))
 }
 
 /// Text that is not whole, or that goes on behind its end, at the full depth.
@@ -95,37 +97,58 @@ pub fn reductions(
     suite.test(&format!("{label} deep: text that reading refuses"), || refused(subject, predict));
 }
 
+fn large_files() -> Vec<checking::Row> {
+    checking::rows().into_iter().filter(|row| row.file.len() > 10_000).collect()
+}
+
 /// Checking of files with deep terms and types.
-pub fn files(suite: &mut Suite, label: &str, subject: impl Controller + Sync + Copy) {
-    for row in checking::rows().into_iter().filter(|row| row.file.len() > 10_000) {
+fn files(suite: &mut Suite, label: &str, subject: impl Controller + Sync + Copy) {
+    for row in large_files() {
         suite.test(&format!("{label} deep file: {}", row.name), || {
             let reply = from_words(&row.reply, 0);
-            on_small_stack(|| demand_check(&subject, &row.file, reply))
+            on_advised_stack(|| demand_check(&subject, &row.file, reply))
         });
     }
 }
 
-pub fn all(suite: &mut Suite, label: &str, subject: impl Controller + Sync + Copy) {
-    reductions(suite, label, subject, 1_000_000, predict_fast);
-    files(suite, label, subject);
-}
-
-fn compared(subject: impl Probe + Sync, text: &[u8]) -> Outcome {
+fn compared(subject: impl Controller + Sync, text: &[u8]) -> Outcome {
     let first = padded(text, 16_384);
     let (first_term, work) = (text.len(), vec![1; 16_384]);
     let pair = Pair { second: first.clone(), second_term: first_term, first, first_term, work, fuel: 300 };
     let expected = predict_pair(&pair);
-    on_small_stack(|| demand_pair(&subject, &pair, &expected))
+    on_advised_stack(|| demand_pair(&subject, &pair, &expected))
 }
 
-/// Reading of millions of letters, and comparing of deep terms.
-pub fn all_probes(suite: &mut Suite, label: &str, subject: impl Probe + Sync + Copy) {
-    for row in reading::long_rows() {
-        let answer = Second::<Plain>::new().read(&row.slice);
-        let name = format!("{label} deep reading: {}", row.name);
-        suite.test(&name, || on_small_stack(|| demand_read(&subject, &row.slice, answer)));
-    }
+/// Comparing of deep terms, each with itself.
+fn comparisons(suite: &mut Suite, label: &str, subject: impl Controller + Sync + Copy) {
     for (name, text) in deep_terms() {
         suite.test(&format!("{label} deep comparing: {name}"), || compared(subject, &text));
     }
+}
+
+/// Reading of millions of letters.
+fn readings(suite: &mut Suite, label: &str, subject: impl Controller + Sync + Copy) {
+    for row in reading::long_rows() {
+        let reply = from_words(&row.reply, 0);
+        let name = format!("{label} deep reading: {}", row.name);
+        suite.test(&name, || on_advised_stack(|| demand_read(&subject, &row.slice, reply)));
+    }
+}
+
+/// Matching of a file with deep terms and types with itself.
+fn matches(suite: &mut Suite, label: &str, subject: impl Controller + Sync + Copy) {
+    for row in large_files() {
+        let reply = if row.reply.starts_with("accepted") { "match" } else { &row.reply };
+        let reply = from_words(reply, 0);
+        let name = format!("{label} deep matching: {}", row.name);
+        suite.test(&name, || on_advised_stack(|| demand_match(&subject, [&row.file, &row.file], reply)));
+    }
+}
+
+pub fn all(suite: &mut Suite, label: &str, subject: impl Controller + Sync + Copy) {
+    readings(suite, label, subject);
+    reductions(suite, label, subject, 1_000_000, predict_fast);
+    comparisons(suite, label, subject);
+    files(suite, label, subject);
+    matches(suite, label, subject);
 }

@@ -96,7 +96,7 @@ impl<'a> Maker<'a> {
         middle
     }
 
-    /// A derivation of some judgement, of at most this depth.
+    /// A derivation of some judgement. The depth bounds how often a goal is split; indices and contexts go deeper.
     pub fn any(&mut self, depth: usize) -> Option<Derivation> {
         let context = self.context();
         let kind = match self.random.below(3) {
@@ -259,7 +259,7 @@ fn line(derivation: &Derivation, numbers: [Vec<u8>; 2]) -> Vec<u8> {
     line
 }
 
-/// Some derivations within the files' limits, of growing depth.
+/// So many derivations of terms of fewer than 400 letters. Their files may still be over the limits.
 pub fn some(random: &mut Random, count: usize) -> Vec<Derivation> {
     let mut found = vec![];
     while found.len() < count {

@@ -1,12 +1,12 @@
 //! Finishing: the table, every small term, random and damaged ones, in several areas and fuels.
 
 use crate::damage::damaged;
-use crate::lent::{agree, demand, predict_fast, Call, Expected};
+use crate::lent::{agree, demand, predict_fast, predict_plain, Call, Expected, Guarded};
 use crate::random::Random;
-use crate::reply::from_words;
+use crate::reply::{code, from_words, in_words, pack, size, value, SPENT};
 use crate::step_tests::{call_on, padded};
 use crate::subject::Controller;
-use crate::suite::{Outcome, Suite};
+use crate::suite::{equal, shown, Outcome, Suite};
 use crate::table::finishing::{examples, long_rows, refused_rows, rows, RefusedRow, Row};
 use crate::terms::{all_of_size, random_of_size, twice_nested};
 
@@ -43,7 +43,7 @@ fn small_terms(subject: &dyn Controller) -> Outcome {
     Ok(())
 }
 
-/// Random terms, each with every fuel up to one more than its run needs, or 40.
+/// Random terms, each with every fuel from 0 to 39.
 fn every_fuel(subject: &dyn Controller) -> Outcome {
     let mut random = Random::new(12);
     for _ in 0..400 {
@@ -124,17 +124,73 @@ fn edges(subject: &dyn Controller) -> Outcome {
     Ok(())
 }
 
+/// A run in calls of at most `piece` steps, each on the term that the one before left: the last reply and all
+/// steps made, set against one call with the whole fuel.
+fn taken_up(subject: &dyn Controller, call: &Call, fuel: u64, piece: u64, expected: &Expected) -> Outcome {
+    let (mut area, mut work) = (Guarded::new(&call.area), Guarded::new(&call.work));
+    let (mut term, mut made) = (call.term, 0);
+    let last = loop {
+        let reply = subject.finish(area.area(), term, work.area(), piece.min(fuel - made));
+        (term, made) = (size(reply), made + value(reply));
+        if code(reply) != SPENT || made == fuel {
+            break code(reply);
+        }
+    };
+    let found = equal("reply", in_words(pack(last, made, term)), in_words(expected.reply))
+        .and_then(|()| area.expect("term area", &expected.area))
+        .and_then(|()| work.expect("work area", &expected.work));
+    found.map_err(|what| format!("{what}; in calls of {piece} steps on {}", shown(&call.area[..call.term])))
+}
+
+/// Runs whose end is worked out by hand, taken up again and again.
+fn taken_up_by_hand(subject: &dyn Controller) -> Outcome {
+    let rows = examples().into_iter().chain(long_rows());
+    for row in rows.filter(|row| !row.reply.contains('@')) {
+        let area = padded(&row.term, row.area);
+        let call = Call { term: row.term.len(), work: vec![b'w'; area.len()], area };
+        let reply = from_words(&row.reply, row.after.len());
+        let expected = Expected { reply, area: padded(&row.after, row.area), work: vec![0; row.area] };
+        let calls = |piece: &u64| value(reply) / piece;
+        for piece in [1, 7, 1_000].into_iter().filter(|piece| calls(piece) < 100) {
+            taken_up(subject, &call, row.fuel, piece, &expected)?;
+        }
+    }
+    Ok(())
+}
+
+/// Random runs, taken up again and again.
+fn taken_up_at_random(subject: &dyn Controller) -> Outcome {
+    let mut random = Random::new(16);
+    for _ in 0..1_500 {
+        let size = random.between(3, 120);
+        let text = random_of_size(&mut random, size).text();
+        let room = *random.pick(&[0, 30, 300, 2_000]);
+        let call = call_on(&mut random, &text, size + room);
+        let (fuel, piece) = (*random.pick(&[1, 100, 400]), *random.pick(&[1, 2, 13, 150]));
+        taken_up(subject, &call, fuel, piece, &predict_plain(&call, Some(fuel)))?;
+    }
+    Ok(())
+}
+
 /// Calls whose replies are written by hand.
 pub fn known(suite: &mut Suite, label: &str, subject: impl Controller) {
     for row in examples() {
         suite.test(&format!("{label} finishing, example: {}", row.name), || by_hand(&subject, &row));
     }
-    for row in rows().into_iter().chain(long_rows()) {
+    for row in rows() {
         suite.test(&format!("{label} finishing: {}", row.name), || by_hand(&subject, &row));
     }
     for row in refused_rows() {
         suite.test(&format!("{label} finishing refuses: {}", row.name), || refused_by_hand(&subject, &row));
     }
+}
+
+/// Runs of many steps whose end follows from how the term is made.
+pub fn made(suite: &mut Suite, label: &str, subject: impl Controller) {
+    for row in long_rows() {
+        suite.test(&format!("{label} finishing: {}", row.name), || by_hand(&subject, &row));
+    }
+    suite.test(&format!("{label} finishing: spent runs taken up again"), || taken_up_by_hand(&subject));
 }
 
 /// Calls whose replies the plain reducer predicts.
@@ -145,6 +201,7 @@ pub fn predicted(suite: &mut Suite, label: &str, subject: impl Controller) {
     suite.test(&format!("{label} finishing: random terms"), || random_terms(&subject));
     suite.test(&format!("{label} finishing: large random terms"), || large_terms(&subject));
     suite.test(&format!("{label} finishing: damaged terms"), || damaged_terms(&subject));
+    suite.test(&format!("{label} finishing: random runs taken up again"), || taken_up_at_random(&subject));
 }
 
 /// Runs of many steps, predicted by the fast reducer: up to a million for the engine.

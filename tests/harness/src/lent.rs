@@ -1,15 +1,26 @@
 //! Lent areas with guard bytes on both sides, and calls whose every lent byte is predicted.
 
 use crate::reply::in_words;
-use crate::subject::{Controller, Probe, Second};
+use crate::subject::{Controller, Second};
 use crate::suite::{equal, equal_bytes, shown, Outcome};
 use second::comparing::Lent;
 use second::plain::Plain;
 use second::stepping::Reducer;
+use std::cell::Cell;
 
 const GUARD: usize = 48;
+const ALIGNED: usize = 16;
 
-/// A lent area with guard bytes around it; areas start at every alignment in turn.
+thread_local! {
+    static TURN: Cell<usize> = const { Cell::new(0) };
+}
+
+/// The numbers 0 to 16 in turn: their count is odd, so that the two areas of a call take each of them.
+fn turn() -> usize {
+    TURN.replace((TURN.get() + 1) % (ALIGNED + 1))
+}
+
+/// A lent area with guard bytes around it; areas start at each distance from a multiple of 16 in turn.
 pub struct Guarded {
     bytes: Vec<u8>,
     start: usize,
@@ -22,9 +33,9 @@ fn guard_byte(place: usize) -> u8 {
 
 impl Guarded {
     pub fn new(content: &[u8]) -> Self {
-        let start = GUARD + content.len() % 8;
-        let whole = start + content.len() + GUARD;
+        let whole = GUARD + 2 * ALIGNED + content.len() + GUARD;
         let mut bytes: Vec<u8> = (0..whole).map(guard_byte).collect();
+        let start = GUARD + bytes[GUARD..].as_ptr().align_offset(ALIGNED) + turn();
         bytes[start..start + content.len()].copy_from_slice(content);
         Guarded { bytes, start, length: content.len() }
     }
@@ -115,27 +126,27 @@ pub struct Pair {
     pub fuel: u64,
 }
 
-/// What comparing answers, and the bytes of the two areas and the work area afterwards.
-pub type Compared = (crate::subject::Answer, [Vec<u8>; 3]);
+/// What comparing replies, and the bytes of the two areas and the work area afterwards.
+pub type Compared = (u64, [Vec<u8>; 3]);
 
-/// What the second implementation answers to a pair.
+/// What the second implementation replies to a pair.
 pub fn predict_pair(pair: &Pair) -> Compared {
     let (mut first, mut second, mut work) = (pair.first.clone(), pair.second.clone(), pair.work.clone());
     let subject = Second::<Plain>::new();
     let (one, two) =
         (Lent { area: &mut first, length: pair.first_term }, Lent { area: &mut second, length: pair.second_term });
-    let answer = subject.compare(one, two, &mut work, pair.fuel);
-    (answer, [first, second, work])
+    let reply = subject.compare(one, two, &mut work, pair.fuel);
+    (reply, [first, second, work])
 }
 
-/// Calls comparing, and demands the answer and every lent byte.
-pub fn demand_pair(subject: &dyn Probe, pair: &Pair, expected: &Compared) -> Outcome {
+/// Calls comparing, and demands the reply and every lent byte.
+pub fn demand_pair(subject: &dyn Controller, pair: &Pair, expected: &Compared) -> Outcome {
     let mut areas = [&pair.first, &pair.second, &pair.work].map(|bytes| Guarded::new(bytes));
     let [first, second, work] = &mut areas;
     let one = Lent { area: first.area(), length: pair.first_term };
     let two = Lent { area: second.area(), length: pair.second_term };
-    let answer = subject.compare(one, two, work.area(), pair.fuel);
-    let mut found = equal("answer", answer, expected.0);
+    let reply = subject.compare(one, two, work.area(), pair.fuel);
+    let mut found = equal("reply", in_words(reply), in_words(expected.0));
     for (place, what) in ["first area", "second area", "work area"].into_iter().enumerate() {
         found = found.and_then(|()| areas[place].expect(what, &expected.1[place]));
     }
@@ -157,20 +168,20 @@ pub fn agree_check(subject: &dyn Controller, file: &[u8]) -> Outcome {
     demand_check(subject, file, Second::<Plain>::new().check(file))
 }
 
-/// Calls reading on guarded bytes, and demands the answer and that no byte was changed.
-pub fn demand_read(subject: &dyn Probe, slice: &[u8], answer: crate::subject::Answer) -> Outcome {
+/// Calls reading on guarded bytes, and demands the reply and that no byte was changed.
+pub fn demand_read(subject: &dyn Controller, slice: &[u8], reply: u64) -> Outcome {
     let mut lent = Guarded::new(slice);
     let got = subject.read(lent.area());
-    let found = equal("answer", got, answer).and_then(|()| lent.expect("slice", slice));
+    let found = equal("reply", in_words(got), in_words(reply)).and_then(|()| lent.expect("slice", slice));
     found.map_err(|what| format!("{what}; on {}", shown(slice)))
 }
 
-/// Calls matching on guarded bytes, and demands the answer and that no byte was changed.
-pub fn demand_match(subject: &dyn Probe, files: [&[u8]; 2], answer: crate::subject::Answer) -> Outcome {
+/// Calls matching on guarded bytes, and demands the reply and that no byte was changed.
+pub fn demand_match(subject: &dyn Controller, files: [&[u8]; 2], reply: u64) -> Outcome {
     let mut lent = files.map(Guarded::new);
     let [first, second] = &mut lent;
     let got = subject.match_claims(first.area(), second.area());
-    let found = equal("answer", got, answer)
+    let found = equal("reply", in_words(got), in_words(reply))
         .and_then(|()| lent[0].expect("first file", files[0]))
         .and_then(|()| lent[1].expect("second file", files[1]));
     found.map_err(|what| format!("{what}; on {} and {}", shown(files[0]), shown(files[1])))

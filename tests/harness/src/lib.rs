@@ -1,4 +1,4 @@
-//! Sets a subject, the engine or a stand-in for it, against the second implementation.
+//! What a subject, the engine or the second implementation, is asked, and what it must reply.
 
 pub mod changes;
 pub mod check_tests;
@@ -10,6 +10,7 @@ pub mod finish_tests;
 pub mod huge;
 pub mod lent;
 pub mod match_tests;
+pub mod memory;
 pub mod program_tests;
 pub mod random;
 pub mod read_tests;
@@ -20,3 +21,5 @@ pub mod subject;
 pub mod suite;
 pub mod table;
 pub mod terms;
+pub mod threads;
+pub mod wrong;

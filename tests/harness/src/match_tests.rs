@@ -5,21 +5,13 @@ use crate::damage::{damaged, with_field_damaged, with_field_of_other_line};
 use crate::derivations::{after_step, file_of, some};
 use crate::lent::demand_match;
 use crate::random::Random;
-use crate::reply::{refusal_in, MATCH, NO_MATCH};
-use crate::subject::{Answer, Probe, Second};
+use crate::reply::{from_words, pack, MATCH};
+use crate::subject::{Controller, Second};
 use crate::suite::{Outcome, Suite};
 use crate::table::matching::rows;
 use second::plain::Plain;
 
-fn answer(words: &str) -> Answer {
-    match words {
-        "match" => (MATCH, 0),
-        "no match" => (NO_MATCH, 0),
-        _ => refusal_in(words).expect("a row's answer is a verdict or a refusal"),
-    }
-}
-
-fn agree(subject: &dyn Probe, files: [&[u8]; 2]) -> Outcome {
+fn agree(subject: &dyn Controller, files: [&[u8]; 2]) -> Outcome {
     demand_match(subject, files, Second::<Plain>::new().match_claims(files[0], files[1]))
 }
 
@@ -31,10 +23,10 @@ fn files(seed: u64, count: usize) -> Vec<Vec<u8>> {
 }
 
 /// Every two of some files, each also with itself.
-fn generated(subject: &dyn Probe) -> Outcome {
+fn generated(subject: &dyn Controller) -> Outcome {
     let files = files(41, 50);
     for first in &files {
-        demand_match(subject, [first, first], (MATCH, 0))?;
+        demand_match(subject, [first, first], pack(MATCH, 0, 0))?;
         for second in &files {
             agree(subject, [first, second])?;
         }
@@ -43,20 +35,20 @@ fn generated(subject: &dyn Probe) -> Outcome {
 }
 
 /// The claims on a term before and after a step match.
-fn stepped(subject: &dyn Probe) -> Outcome {
+fn stepped(subject: &dyn Controller) -> Outcome {
     let mut random = Random::new(42);
     for derivation in some(&mut random, 600) {
         let Some(next) = after_step(&derivation) else { continue };
         let layout = *random.pick(&LAYOUTS);
         let files = [file_of(&derivation, layout), file_of(&next, layout)];
         if files.iter().all(|file| within_limits(file)) {
-            demand_match(subject, [&files[0], &files[1]], (MATCH, 0))?;
+            demand_match(subject, [&files[0], &files[1]], pack(MATCH, 0, 0))?;
         }
     }
     Ok(())
 }
 
-fn damaged_files(subject: &dyn Probe) -> Outcome {
+fn damaged_files(subject: &dyn Controller) -> Outcome {
     let mut random = Random::new(43);
     let files = files(43, 150);
     for _ in 0..4_000 {
@@ -73,17 +65,21 @@ fn damaged_files(subject: &dyn Probe) -> Outcome {
     Ok(())
 }
 
-/// Files whose answers are known: by hand, or because both hold one claim.
-pub fn known(suite: &mut Suite, label: &str, subject: impl Probe) {
+/// Files whose replies are written by hand.
+pub fn known(suite: &mut Suite, label: &str, subject: impl Controller) {
     for row in rows() {
         let name = format!("{label} matching: {}", row.name);
-        suite.test(&name, || demand_match(&subject, [&row.files[0], &row.files[1]], answer(row.answer)));
+        suite.test(&name, || demand_match(&subject, [&row.files[0], &row.files[1]], from_words(row.reply, 0)));
     }
+}
+
+/// Files that match because of how they are made.
+pub fn made(suite: &mut Suite, label: &str, subject: impl Controller) {
     suite.test(&format!("{label} matching: claims before and after a step"), || stepped(&subject));
 }
 
-/// Files whose answers the second checker predicts.
-pub fn predicted(suite: &mut Suite, label: &str, subject: impl Probe) {
+/// Files whose replies the second checker predicts.
+pub fn predicted(suite: &mut Suite, label: &str, subject: impl Controller) {
     suite.test(&format!("{label} matching: generated files"), || generated(&subject));
     suite.test(&format!("{label} matching: damaged files"), || damaged_files(&subject));
 }

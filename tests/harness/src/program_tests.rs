@@ -10,7 +10,7 @@ use crate::table::programs::{check_rows, finish_rows};
 use crate::terms::random_of_size;
 use second::plain::Plain;
 use std::io::{Read, Write};
-use std::path::PathBuf;
+use std::path::{Path, PathBuf};
 use std::process::{Command, Stdio};
 use std::time::Duration;
 
@@ -136,12 +136,55 @@ pub fn predicted_checking(suite: &mut Suite, label: &str, subject: impl Programs
     suite.test(&format!("{label} check_file program: random files"), || random_files(&subject));
 }
 
+/// A program started by a shell with one of its streams redirected; what it prints and what it complains of.
+fn redirected(program: &Path, redirection: &str, input: &[u8]) -> Result<[Vec<u8>; 2], String> {
+    let mut command = Command::new("sh");
+    let command = command.arg("-c").arg(format!("exec \"$0\" {redirection}")).arg(program);
+    let command = command.stdin(Stdio::piped()).stdout(Stdio::piped()).stderr(Stdio::piped());
+    let mut child = command.spawn().map_err(|error| error.to_string())?;
+    feed(child.stdin.take().unwrap(), input, usize::MAX, Duration::ZERO);
+    let ended = child.wait_with_output().map_err(|error| error.to_string())?;
+    match ended.status.code() {
+        Some(_) => Ok([ended.stdout, ended.stderr]),
+        None => Err(format!("ended by a signal: {}", ended.status)),
+    }
+}
+
+/// Nothing is printed, and one line on standard error says why.
+fn complains(program: &Path, redirection: &str, input: &[u8]) -> Outcome {
+    let [printed, complaint] = redirected(program, redirection, input)?;
+    equal_bytes("printed", &printed, b"")?;
+    let line_feeds = complaint.iter().filter(|&&byte| byte == b'\n').count();
+    match complaint.strip_suffix(b"\n") {
+        Some(line) if !line.is_empty() && line_feeds == 1 => Ok(()),
+        _ => Err(format!("on standard error stands {} and not one line", shown(&complaint))),
+    }
+}
+
+/// Input that cannot be read, and output that cannot be written.
+pub fn failing(suite: &mut Suite, label: &str, program: &str, processes: &Processes) {
+    let inputs: [&[u8]; 2] = match program {
+        "finish" => [b"6\t12\t.BII.JRJ\n", b"x"],
+        _ => [b"1\tI\t1\tI\t-\t-\n", b"x"],
+    };
+    let streams = [
+        ("input from a folder", "< /"),
+        ("input closed", "<&-"),
+        ("output to a full device", "> /dev/full"),
+        ("output closed", ">&-"),
+    ];
+    for (name, redirection) in streams {
+        suite.test(&format!("{label} {program} program: {name}"), || {
+            inputs.iter().try_for_each(|input| complains(&processes.folder.join(program), redirection, input))
+        });
+    }
+}
+
 /// Rows whose input is short enough to be given slowly.
 const SHORT: usize = 60;
 
 /// The same rows, given to the process byte by byte, so that it is fed many short pieces.
-pub fn slowly(suite: &mut Suite, label: &str, program: &str, folder: PathBuf) {
-    let processes = Processes { folder };
+pub fn slowly(suite: &mut Suite, label: &str, program: &str, processes: &Processes) {
     let rows = if program == "finish" { finish_rows() } else { check_rows() };
     suite.test(&format!("{label} {program} program: input byte by byte"), || {
         for row in rows.iter().filter(|row| row.input.len() <= SHORT) {

@@ -3,23 +3,19 @@
 use crate::damage::damaged;
 use crate::lent::demand_read;
 use crate::random::Random;
-use crate::reply::refusal_in;
-use crate::subject::{Answer, Probe, Second};
+use crate::reply::from_words;
+use crate::subject::{Controller, Second};
 use crate::suite::{Outcome, Suite};
-use crate::table::reading::{long_rows, rows};
+use crate::table::reading::{long_rows, rows, Row};
 use crate::terms::random_of_size;
 use second::plain::Plain;
 
-fn answer(words: &str) -> Answer {
-    refusal_in(words).unwrap_or_else(|| (0, words.parse().expect("a row's answer is a size")))
-}
-
-fn agree(subject: &dyn Probe, slice: &[u8]) -> Outcome {
+fn agree(subject: &dyn Controller, slice: &[u8]) -> Outcome {
     demand_read(subject, slice, Second::<Plain>::new().read(slice))
 }
 
 /// Every slice of up to five bytes over the letters and two others.
-fn short_slices(subject: &dyn Probe) -> Outcome {
+fn short_slices(subject: &dyn Controller) -> Outcome {
     let mut slices = vec![vec![]];
     for _ in 0..5 {
         let longer = |slice: &Vec<u8>| b"JRHAIB.x\0".map(|letter| [&slice[..], &[letter]].concat());
@@ -33,7 +29,7 @@ fn short_slices(subject: &dyn Probe) -> Outcome {
 }
 
 /// Each of the 256 bytes alone, behind `R`, and behind a whole term.
-fn each_byte(subject: &dyn Probe) -> Outcome {
+fn each_byte(subject: &dyn Controller) -> Outcome {
     for byte in 0..=255 {
         agree(subject, &[byte])?;
         agree(subject, &[b'R', byte])?;
@@ -42,7 +38,7 @@ fn each_byte(subject: &dyn Probe) -> Outcome {
     Ok(())
 }
 
-fn random_slices(subject: &dyn Probe) -> Outcome {
+fn random_slices(subject: &dyn Controller) -> Outcome {
     let mut random = Random::new(101);
     for _ in 0..20_000 {
         let size = random.between(1, 80);
@@ -57,16 +53,25 @@ fn random_slices(subject: &dyn Probe) -> Outcome {
     Ok(())
 }
 
-/// Slices whose answers are written by hand.
-pub fn known(suite: &mut Suite, label: &str, subject: impl Probe) {
-    for row in rows().into_iter().chain(long_rows()) {
+fn by_hand(suite: &mut Suite, label: &str, subject: impl Controller, rows: Vec<Row>) {
+    for row in rows {
         let name = format!("{label} reading: {}", row.name);
-        suite.test(&name, || demand_read(&subject, &row.slice, answer(&row.answer)));
+        suite.test(&name, || demand_read(&subject, &row.slice, from_words(&row.reply, 0)));
     }
 }
 
-/// Slices whose answers the second reader predicts.
-pub fn predicted(suite: &mut Suite, label: &str, subject: impl Probe) {
+/// Slices whose replies are written by hand.
+pub fn known(suite: &mut Suite, label: &str, subject: impl Controller) {
+    by_hand(suite, label, subject, rows());
+}
+
+/// The same, of millions of bytes.
+pub fn made(suite: &mut Suite, label: &str, subject: impl Controller) {
+    by_hand(suite, label, subject, long_rows());
+}
+
+/// Slices whose replies the second reader predicts.
+pub fn predicted(suite: &mut Suite, label: &str, subject: impl Controller) {
     suite.test(&format!("{label} reading: each byte"), || each_byte(&subject));
     suite.test(&format!("{label} reading: every slice of up to five bytes"), || short_slices(&subject));
     suite.test(&format!("{label} reading: random and damaged slices"), || random_slices(&subject));

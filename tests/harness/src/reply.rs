@@ -1,5 +1,6 @@
-//! The one number in which a controller function replies, and the replies of the probes.
+//! The one number in which a function of the engine replies.
 
+use second::comparing::Verdict;
 use second::finishing::{Outcome, Run};
 use second::refusal::Refusal;
 use second::stepping::{Next, Stepped};
@@ -7,29 +8,62 @@ use second::stepping::{Next, Stepped};
 pub const NORMAL: u64 = 100;
 pub const STEP_NO_ROOM: u64 = 101;
 pub const STEPPED: u64 = 102;
+pub const WHOLE: u64 = 103;
 pub const FINISHED: u64 = 110;
 pub const SPENT: u64 = 111;
 pub const NO_ROOM: u64 = 112;
+pub const SAME: u64 = 113;
+pub const DIFFERENT: u64 = 114;
+pub const UNDECIDED: u64 = 115;
 pub const ACCEPTED: u64 = 120;
-pub const SAME: u64 = 130;
-pub const DIFFERENT: u64 = 131;
-pub const UNDECIDED: u64 = 132;
-pub const MATCH: u64 = 140;
-pub const NO_MATCH: u64 = 141;
+pub const MATCH: u64 = 180;
+pub const NO_MATCH: u64 = 181;
 
-/// Code in bits 0 to 7, value in bits 8 to 31, length of the term in bits 32 to 63.
-pub fn pack(code: u64, value: u64, length: usize) -> u64 {
-    assert!(code < 1 << 8 && value < 1 << 24 && length < 1 << 32, "a reply's parts fit their bits");
-    code | value << 8 | (length as u64) << 32
+/// An answer: its code in bits 0 to 7, a value in bits 8 to 31, the term's size in bits 32 to 63.
+pub fn pack(code: u64, value: u64, size: usize) -> u64 {
+    assert!((100..256).contains(&code) && value < 1 << 24 && size < 1 << 32, "an answer's parts fit their bits");
+    code | value << 8 | (size as u64) << 32
+}
+
+/// A refusal's number, or that a term is whole, in bits 0 to 7; its place, line or size in bits 8 to 63.
+pub fn placed(code: u64, place: usize) -> u64 {
+    assert!(code < 256 && place < 1 << 56, "a place fits its bits");
+    code | (place as u64) << 8
+}
+
+/// Is this the reply of a call that was refused?
+pub fn is_refusal(reply: u64) -> bool {
+    code(reply) < 100
+}
+
+pub fn code(reply: u64) -> u64 {
+    reply & 0xff
+}
+
+/// The value of an answer.
+pub fn value(reply: u64) -> u64 {
+    reply >> 8 & 0xff_ffff
+}
+
+/// The size of the term that an answer leaves.
+pub fn size(reply: u64) -> usize {
+    (reply >> 32) as usize
 }
 
 /// A packed reply in words.
 pub fn in_words(reply: u64) -> String {
-    format!("code {} value {} length {}", reply & 0xff, reply >> 8 & 0xff_ffff, reply >> 32)
+    if is_refusal(reply) || code(reply) == WHOLE {
+        return format!("code {} place {}", code(reply), reply >> 8);
+    }
+    format!("code {} value {} size {}", code(reply), value(reply), size(reply))
 }
 
 pub fn of_refusal(refusal: Refusal) -> u64 {
-    pack(refusal.number.into(), refusal.place as u64, 0)
+    placed(refusal.number.into(), refusal.place)
+}
+
+pub fn of_read(reply: Result<usize, Refusal>) -> u64 {
+    reply.map_or_else(of_refusal, |size| placed(WHOLE, size))
 }
 
 pub fn of_step(reply: Result<Stepped, Refusal>) -> u64 {
@@ -58,22 +92,45 @@ pub fn of_run(reply: Result<Run, Refusal>) -> u64 {
     pack(code, run.count, run.length)
 }
 
+pub fn of_verdict(reply: Result<Verdict, Refusal>) -> u64 {
+    match reply {
+        Ok(Verdict::Same) => pack(SAME, 0, 0),
+        Ok(Verdict::Different) => pack(DIFFERENT, 0, 0),
+        Ok(Verdict::Undecided) => pack(UNDECIDED, 0, 0),
+        Err(refusal) => of_refusal(refusal),
+    }
+}
+
+pub fn of_match(reply: Result<bool, Refusal>) -> u64 {
+    match reply {
+        Ok(true) => pack(MATCH, 0, 0),
+        Ok(false) => pack(NO_MATCH, 0, 0),
+        Err(refusal) => of_refusal(refusal),
+    }
+}
+
 /// The number and the place of a refusal written as `number@place`.
-pub fn refusal_in(words: &str) -> Option<(u64, usize)> {
+fn refusal_in(words: &str) -> Option<u64> {
     let (number, place) = words.split_once('@')?;
-    Some((number.parse().ok()?, place.parse().ok()?))
+    Some(placed(number.parse().ok()?, place.parse().ok()?))
 }
 
 /// The packed reply that a row's words name; `length` is that of the term the row ends with.
 pub fn from_words(words: &str, length: usize) -> u64 {
-    if let Some((number, place)) = refusal_in(words) {
-        return pack(number, place as u64, 0);
+    if let Some(refusal) = refusal_in(words) {
+        return refusal;
     }
     let (outcome, value) = words.rsplit_once(' ').unwrap_or((words, "0"));
     let value = || value.parse().expect("a row's last word is a number");
     match (words, outcome) {
         ("normal", _) => pack(NORMAL, 0, length),
         ("no room", _) => pack(STEP_NO_ROOM, 0, length),
+        ("same", _) => pack(SAME, 0, 0),
+        ("different", _) => pack(DIFFERENT, 0, 0),
+        ("undecided", _) => pack(UNDECIDED, 0, 0),
+        ("match", _) => pack(MATCH, 0, 0),
+        ("no match", _) => pack(NO_MATCH, 0, 0),
+        (_, "whole") => placed(WHOLE, value() as usize),
         (_, "rule") => pack(STEPPED, value(), length),
         (_, "finished") => pack(FINISHED, value(), length),
         (_, "spent") => pack(SPENT, value(), length),

@@ -19,7 +19,7 @@ use second::rules::growth;
 use second::stepping::Reducer;
 use second::term::Term;
 
-/// The numbers of terms of each size that document 02 gives.
+/// How many terms there are of each size, reckoned by hand: one letter takes a term, four letters take two.
 fn numbers_of_terms() -> Outcome {
     for (size, number) in [(1, 2), (2, 2), (3, 18), (4, 50), (5, 354), (6, 1_442), (7, 9_202)] {
         let mut texts: Vec<Vec<u8>> = all_of_size(size).iter().map(Term::text).collect();
@@ -30,7 +30,7 @@ fn numbers_of_terms() -> Outcome {
     Ok(())
 }
 
-/// The row that document 02 gives for size 3, fuel 10, area 20: all 18 finish, in 4 steps together.
+/// All 18 terms of size 3 finish; four of them are applications, of one step each.
 fn runs_of_size_3() -> Outcome {
     let mut steps = 0;
     for term in all_of_size(3) {
@@ -104,7 +104,7 @@ fn any_order() -> Outcome {
     Ok(())
 }
 
-/// Each term of a typed term's run has the claim's type in the claim's context.
+/// Every step keeps what the claim says: its context and its type.
 fn types_are_kept() -> Outcome {
     let mut random = Random::new(63);
     let layout = Layout { shared: true, second_first: false };
@@ -126,22 +126,31 @@ fn types_are_kept() -> Outcome {
     equal("more than 1,000 steps were made", steps > 1_000, true)
 }
 
-/// Everything whose reply is known without the second implementation.
+/// Everything whose reply is known without the second implementation: first what is quick.
 fn known(suite: &mut Suite) {
     let (plain, fast) = (Second::<Plain>::new(), Second::<Machine>::new());
-    step_tests::known(suite, "plain", plain);
-    finish_tests::known(suite, "plain", plain);
-    check_tests::known(suite, "second", plain);
     read_tests::known(suite, "second", plain);
+    step_tests::known(suite, "plain", plain);
+    step_tests::known(suite, "fast", fast);
+    finish_tests::known(suite, "plain", plain);
+    finish_tests::known(suite, "fast", fast);
     compare_tests::known(suite, "plain", plain);
+    compare_tests::known(suite, "fast", fast);
+    check_tests::known(suite, "second", plain);
     match_tests::known(suite, "second", plain);
     program_tests::known_finishing(suite, "second", plain);
     program_tests::known_checking(suite, "second", plain);
-    huge::controller(suite, "second", plain);
-    huge::probe(suite, "second", plain);
-    step_tests::known(suite, "fast", fast);
-    finish_tests::known(suite, "fast", fast);
-    compare_tests::known(suite, "fast", fast);
+    huge::all(suite, "second", plain);
+}
+
+/// Replies that follow from how the input is made.
+fn made(suite: &mut Suite) {
+    let (plain, fast) = (Second::<Plain>::new(), Second::<Machine>::new());
+    read_tests::made(suite, "second", plain);
+    check_tests::made(suite, "second", plain);
+    match_tests::made(suite, "second", plain);
+    finish_tests::made(suite, "plain", plain);
+    finish_tests::made(suite, "fast", fast);
 }
 
 /// The fast reducer against the plain one.
@@ -157,9 +166,10 @@ fn two_reducers(suite: &mut Suite) {
 
 pub fn all(suite: &mut Suite) {
     known(suite);
+    made(suite);
     two_reducers(suite);
     suite.test("self: the numbers of terms of each size", numbers_of_terms);
-    suite.test("self: document 02's row for terms of size 3", runs_of_size_3);
+    suite.test("self: the runs of the terms of size 3", runs_of_size_3);
     suite.test("self: every step of every term of up to 7 letters", every_small_step);
     suite.test("self: terms joined by changes have one result", joined_terms);
     suite.test("self: rules in any order lead to one result", any_order);

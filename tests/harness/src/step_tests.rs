@@ -3,7 +3,7 @@
 use crate::damage::damaged;
 use crate::lent::{agree, demand, predict_plain, Call, Expected};
 use crate::random::Random;
-use crate::reply::{from_words, pack, NORMAL, STEPPED};
+use crate::reply::{code, from_words, pack, size, NORMAL, STEPPED};
 use crate::subject::Controller;
 use crate::suite::{equal_bytes, Outcome, Suite};
 use crate::table::finishing::EXAMPLE_2_RULES;
@@ -30,12 +30,11 @@ fn by_hand(subject: &dyn Controller, row: &stepping::Row) -> Outcome {
 /// A slice that reading refuses, as the term of a step.
 fn read_by_hand(subject: &dyn Controller, row: &reading::Row) -> Outcome {
     let call = Call { area: row.slice.clone(), term: row.slice.len(), work: vec![b'w'; row.slice.len() + 3] };
-    let expected =
-        Expected { reply: from_words(&row.answer, 0), area: call.area.clone(), work: call.work.clone() };
+    let expected = Expected { reply: from_words(&row.reply, 0), area: call.area.clone(), work: call.work.clone() };
     demand(subject, &call, None, &expected)
 }
 
-/// Example 2 of document 01: rules 1, 8, 6, 5, 7, 5.
+/// The second example: rules 1, 8, 6, 5, 7, 5.
 fn example_2(subject: &dyn Controller) -> Outcome {
     let mut area = padded(b".BII.JRJ", 30);
     let mut length = 8;
@@ -65,10 +64,10 @@ fn follow(subject: &dyn Controller, random: &mut Random, text: &[u8], area: usiz
         let call = call_on(random, &text, area);
         let expected = predict_plain(&call, None);
         demand(subject, &call, None, &expected)?;
-        if expected.reply & 0xff != STEPPED {
+        if code(expected.reply) != STEPPED {
             return Ok(());
         }
-        text = expected.area[..(expected.reply >> 32) as usize].to_vec();
+        text = expected.area[..size(expected.reply)].to_vec();
     }
     Ok(())
 }
@@ -170,7 +169,7 @@ pub fn known(suite: &mut Suite, label: &str, subject: impl Controller) {
     for row in stepping::rows() {
         suite.test(&format!("{label} stepping: {}", row.name), || by_hand(&subject, &row));
     }
-    for row in reading::rows().into_iter().filter(|row| row.answer.contains('@')) {
+    for row in reading::rows().into_iter().filter(|row| row.reply.contains('@')) {
         suite.test(&format!("{label} stepping reads: {}", row.name), || read_by_hand(&subject, &row));
     }
     suite.test(&format!("{label} stepping: example 2, rules 1 8 6 5 7 5"), || example_2(&subject));

@@ -1,29 +1,21 @@
-//! What is under test: the engine's functions, or the second implementation in their place.
+//! What is under test: the engine's functions and programs, or the second implementation in their place.
 
 use crate::reply::*;
 use second::checking;
-use second::comparing::{self, Lent, Verdict};
+use second::comparing::{self, Lent};
 use second::finish_line;
 use second::finishing;
-use second::refusal::Refusal;
 use second::stepping::{self, Reducer};
 use std::marker::PhantomData;
 
-/// The three functions that the firmware calls.
+/// The six functions of `include/controller.h`.
 pub trait Controller {
+    fn read(&self, slice: &[u8]) -> u64;
     fn step(&self, area: &mut [u8], term: usize, work: &mut [u8]) -> u64;
     fn finish(&self, area: &mut [u8], term: usize, work: &mut [u8], fuel: u64) -> u64;
+    fn compare(&self, first: Lent, second: Lent, work: &mut [u8], fuel: u64) -> u64;
     fn check(&self, file: &[u8]) -> u64;
-}
-
-/// A reply of a probe: its number and its place or line.
-pub type Answer = (u64, usize);
-
-/// The operations that the firmware does not call.
-pub trait Probe {
-    fn read(&self, slice: &[u8]) -> Answer;
-    fn compare(&self, first: Lent, second: Lent, work: &mut [u8], fuel: u64) -> Answer;
-    fn match_claims(&self, first: &[u8], second: &[u8]) -> Answer;
+    fn match_claims(&self, first: &[u8], second: &[u8]) -> u64;
 }
 
 /// The two programs: what each prints for its input.
@@ -56,6 +48,10 @@ impl<R> Default for Second<R> {
 }
 
 impl<R: Reducer> Controller for Second<R> {
+    fn read(&self, slice: &[u8]) -> u64 {
+        of_read(second::reading::read(slice))
+    }
+
     fn step(&self, area: &mut [u8], term: usize, work: &mut [u8]) -> u64 {
         of_step(stepping::step::<R>(area, term, work))
     }
@@ -64,38 +60,19 @@ impl<R: Reducer> Controller for Second<R> {
         of_run(finishing::finish::<R>(area, term, work, fuel))
     }
 
+    fn compare(&self, first: Lent, second: Lent, work: &mut [u8], fuel: u64) -> u64 {
+        of_verdict(comparing::compare::<R>(first, second, work, fuel))
+    }
+
     fn check(&self, file: &[u8]) -> u64 {
         match checking::check(file) {
             Ok(lines) => pack(ACCEPTED, lines.len() as u64, 0),
             Err(refusal) => of_refusal(refusal),
         }
     }
-}
 
-fn refused(refusal: Refusal) -> Answer {
-    (refusal.number.into(), refusal.place)
-}
-
-impl<R: Reducer> Probe for Second<R> {
-    fn read(&self, slice: &[u8]) -> Answer {
-        second::reading::read(slice).map_or_else(refused, |size| (0, size))
-    }
-
-    fn compare(&self, first: Lent, second: Lent, work: &mut [u8], fuel: u64) -> Answer {
-        match comparing::compare::<R>(first, second, work, fuel) {
-            Ok(Verdict::Same) => (SAME, 0),
-            Ok(Verdict::Different) => (DIFFERENT, 0),
-            Ok(Verdict::Undecided) => (UNDECIDED, 0),
-            Err(refusal) => refused(refusal),
-        }
-    }
-
-    fn match_claims(&self, first: &[u8], second: &[u8]) -> Answer {
-        match checking::match_claims(first, second) {
-            Ok(true) => (MATCH, 0),
-            Ok(false) => (NO_MATCH, 0),
-            Err(refusal) => refused(refusal),
-        }
+    fn match_claims(&self, first: &[u8], second: &[u8]) -> u64 {
+        of_match(checking::match_claims(first, second))
     }
 }
 

@@ -1,4 +1,4 @@
-//! A second implementation of document 01, written from the documents alone.
+//! A second implementation of docs/REQUIREMENTS.md, written apart from the engine.
 //!
 //! Terms, types and judgements are trees here, and recursion on them is plain:
 //! run it on a deep stack (`on_deep_stack`). The engine works on bytes in place,

@@ -1,4 +1,4 @@
-//! A refusal: one of document 01's numbers with its place or line.
+//! A refusal: a number with its place or line (REQUIREMENTS, Replies and areas).
 
 #[derive(Clone, Copy, Debug, PartialEq, Eq)]
 pub struct Refusal {

@@ -1,4 +1,4 @@
-//! The eleven rules, with the numbers and letters of document 01.
+//! The eleven rules with their numbers (REQUIREMENTS, Rules).
 
 use crate::term::Term::{self, *};
 use crate::term::{a, apply, b, h};

@@ -81,7 +81,7 @@ impl Term {
         1 + self.parts().into_iter().flatten().map(Term::size).sum::<usize>()
     }
 
-    /// A term is normal when it has no full stop.
+    /// Is there no full stop in the term?
     pub fn is_normal(&self) -> bool {
         self.letter() != b'.' && self.parts().into_iter().flatten().all(Term::is_normal)
     }

@@ -15,7 +15,10 @@ same-length c = search needs
 
 returns : tie.Need-returns
 returns c =
-    prints _ _ _ (checked (c .before .before .before .before .before .before .before .args .file .now) (c .before .before .before .before .check-derivation .ensures)) (c .before .before .print-checking .ensures)
+    let at-check-derivation = c .before .before .before .before in
+    let start = at-check-derivation .before .before .before in
+    prints _ _ _ (checked (start .args .file .now) (at-check-derivation .check-derivation .ensures))
+    (c .before .before .print-checking .ensures)
 
 pub answer-check-spec : {M : Type 1} → statement M
 answer-check-spec =

@@ -39,21 +39,33 @@ same-length c = search needs
 
 returns : tie.Need-returns
 returns c =
-    ran-prints (c .before .before .before .before .before .before .before .before .before .before .args .run) (c .before .before .before .before .before .before .before .before .before .before .args .area .now) (c .before .before .before .before .before .before .before .cut .result .now) _ _ _ (c .before .before .before .before .before .before .before .cut .ensures) (c .before .before .before .before .before .enum-told .given .1) (c .before .before .print-line .ensures)
+    let at-enum-told = c .before .before .before .before .before in
+    let at-cut = at-enum-told .before .before in
+    let start = at-cut .before .before .before in
+    ran-prints (start .args .run) (start .args .area .now) (at-cut .cut .result .now) _ _ _ (at-cut .cut .ensures)
+    (at-enum-told .enum-told .given .1) (c .before .before .print-line .ensures)
 
 same-length-2 : tie.Need-same-length-2
 same-length-2 c = search needs
 
 returns-2 : tie.Need-returns-2
 returns-2 c =
-    ran-prints (c .before .before .before .before .before .before .before .before .before .before .args .run) (c .before .before .before .before .before .before .before .before .before .before .args .area .now) (c .before .before .before .before .before .before .before .cut .result .now) _ _ _ (c .before .before .before .before .before .before .before .cut .ensures) (c .before .before .before .before .before .enum-told2 .given .1) (c .before .before .print-line2 .ensures)
+    let at-enum-told2 = c .before .before .before .before .before in
+    let at-cut = at-enum-told2 .before .before in
+    let start = at-cut .before .before .before in
+    ran-prints (start .args .run) (start .args .area .now) (at-cut .cut .result .now) _ _ _ (at-cut .cut .ensures)
+    (at-enum-told2 .enum-told2 .given .1) (c .before .before .print-line2 .ensures)
 
 same-length-3 : tie.Need-same-length-3
 same-length-3 c = search needs
 
 returns-3 : tie.Need-returns-3
 returns-3 c =
-    ran-prints (c .before .before .before .before .before .before .before .before .before .before .args .run) (c .before .before .before .before .before .before .before .before .before .before .args .area .now) (c .before .before .before .before .before .before .before .cut .result .now) _ _ _ (c .before .before .before .before .before .before .before .cut .ensures) (c .before .before .before .before .before .enum-told3 .given .1) (c .before .before .print-line3 .ensures)
+    let at-enum-told3 = c .before .before .before .before .before in
+    let at-cut = at-enum-told3 .before .before in
+    let start = at-cut .before .before .before in
+    ran-prints (start .args .run) (start .args .area .now) (at-cut .cut .result .now) _ _ _ (at-cut .cut .ensures)
+    (at-enum-told3 .enum-told3 .given .1) (c .before .before .print-line3 .ensures)
 
 pub print-run-spec : {M : Type 1} → statement M
 print-run-spec =

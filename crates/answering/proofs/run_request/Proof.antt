@@ -19,14 +19,16 @@ slice-relend-prefix-finish c = search needs
 
 slice-aggregate-finish : tie.Need-slice-aggregate-finish
 slice-aggregate-finish c =
-    sym (length-take-le (c .before .before .least .result) (c .before .before .before .before .before .before .args .term .now) (omega arith))
+    let start = c .before .before .before .before .before .before in
+    sym (length-take-le (c .before .before .least .result) (start .args .term .now) (omega arith))
 
 slice-relend-prefix-finish-2 : tie.Need-slice-relend-prefix-finish-2
 slice-relend-prefix-finish-2 c = search needs
 
 slice-aggregate-finish-2 : tie.Need-slice-aggregate-finish-2
 slice-aggregate-finish-2 c =
-    sym (length-take-le (c .before .before .least2 .result) (c .before .before .before .before .before .before .before .args .work .now) (omega arith))
+    let start = c .before .before .before .before .before .before .before in
+    sym (length-take-le (c .before .before .least2 .result) (start .args .work .now) (omega arith))
 
 finish-requires : tie.Need-finish-requires
 finish-requires c κs = search needs
@@ -36,7 +38,11 @@ slice-reshare-prefix-print-finishing c = search needs
 
 slice-aggregate-print-finishing : tie.Need-slice-aggregate-print-finishing
 slice-aggregate-print-finishing c =
-    front-length (c .before .before .before .before .before .before .before .before .before .before .before .before .before .before .args .area) (c .before .before .before .before .before .before .before .before .before .before .before .before .before .before .args .term .now) (c .before .before .before .before .before .before .before .before .before .before .least .result) (c .before .before .before .before .before .before .finish .last .0) (c .before .before .before .before .before .before .before .before .before .before .least .ensures) (c .before .before .before .before .before .before .finish .kept .0)
+    let at-finish = c .before .before .before .before .before .before in
+    let at-least = at-finish .before .before .before .before in
+    let start = at-least .before .before .before .before in
+    front-length (start .args .area) (start .args .term .now) (at-least .least .result) (at-finish .finish .last .0)
+    (at-least .least .ensures) (at-finish .finish .kept .0)
 
 print-finishing-requires : tie.Need-print-finishing-requires
 print-finishing-requires c κs = search needs
@@ -52,7 +58,15 @@ same-length-3 c = search needs
 
 returns : tie.Need-returns
 returns c =
-    request-answers (c .before .before .before .before .before .before .before .before .before .before .before .before .before .before .before .before .before .before .args .fuel) (c .before .before .before .before .before .before .before .before .before .before .before .before .before .before .before .before .before .before .args .area) (c .before .before .before .before .before .before .before .before .before .before .before .before .before .before .before .before .before .before .args .length) (c .before .before .before .before .before .before .before .before .before .before .before .before .before .before .before .before .before .before .args .term .now) (c .before .before .before .before .before .before .before .before .before .before .before .before .before .before .before .before .before .before .args .work .now) (c .before .before .before .before .before .before .before .before .before .before .before .before .before .before .least .result) (c .before .before .before .before .before .before .before .before .before .before .before .before .before .least2 .result) (replyOf (c .before .before .before .before .before .before .before .before .before .before .finish .result .admission)) (ranOf (c .before .before .before .before .before .before .before .before .before .before .finish .result .run)) (c .before .before .before .before .before .before .before .before .before .before .finish .last .0) (c .before .before .before .before .before .before .before .before .before .before .finish .last .1 .1 .0) _ _ _ (c .before .before .before .before .before .before .before .before .before .before .before .before .before .before .least .ensures) (c .before .before .before .before .before .before .before .before .before .before .before .before .before .least2 .ensures) (c .before .before .before .before .before .before .before .before .before .before .finish .kept .0) (c .before .before .before .before .before .before .before .before .before .before .finish .ensures .0) (c .before .before .print-finishing .ensures)
+    let at-finish = c .before .before .before .before .before .before .before .before .before .before in
+    let at-least2 = at-finish .before .before .before in
+    let at-least = at-least2 .before in
+    let start = at-least .before .before .before .before in
+    request-answers (start .args .fuel) (start .args .area) (start .args .length) (start .args .term .now) (start .args .work .now)
+    (at-least .least .result) (at-least2 .least2 .result) (replyOf (at-finish .finish .result .admission))
+    (ranOf (at-finish .finish .result .run)) (at-finish .finish .last .0) (at-finish .finish .last .1 .1 .0) _ _ _
+    (at-least .least .ensures) (at-least2 .least2 .ensures) (at-finish .finish .kept .0) (at-finish .finish .ensures .0)
+    (c .before .before .print-finishing .ensures)
 
 pub run-request-spec : {M : Type 1} → statement M
 run-request-spec =

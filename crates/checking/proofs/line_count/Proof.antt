@@ -32,10 +32,20 @@ loop-less : tie.Need-loop-less Inv-loop μ-loop
 loop-less c = omega arith
 
 loop-again : tie.Need-loop-again Inv-loop μ-loop
-loop-again c = ⊎-elim (λ w. let feed = at-feed (c .before .before .before .before .args .file .now) (c .before .before .before .loop .at) (c .before .before .loop-test .taken) (w .0 .taken) in (omega (arith, w .1), omega arith, omega (arith, w .1))) (λ w. let same = at-other (c .before .before .before .before .args .file .now) (c .before .before .before .loop .at) (c .before .before .loop-test .taken) (w .0 .left) in (omega (arith, w .1), omega arith, omega (arith, w .1))) (c .if1 .came)
+loop-again c =
+    let at-loop = c .before .before .before in
+    let start = at-loop .before in
+    ⊎-elim
+    (λ w. let feed = at-feed (start .args .file .now) (at-loop .loop .at) (c .before .before .loop-test .taken) (w .0 .taken) in
+    (omega (arith, w .1), omega arith, omega (arith, w .1)))
+    (λ w. let same = at-other (start .args .file .now) (at-loop .loop .at) (c .before .before .loop-test .taken) (w .0 .left) in
+    (omega (arith, w .1), omega arith, omega (arith, w .1)))
+    (c .if1 .came)
 
 returns : tie.Need-returns Inv-loop μ-loop
-returns c = let none-left = no-more (c .before .before .args .file .now) (c .before .loop .at) (c .loop-test .left) in omega (arith, c .before .loop .inv .2)
+returns c =
+    let none-left = no-more (c .before .before .args .file .now) (c .before .loop .at) (c .loop-test .left) in
+    omega (arith, c .before .loop .inv .2)
 
 pub line-count-spec : {M : Type 1} → statement M
 line-count-spec =

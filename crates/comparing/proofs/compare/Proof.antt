@@ -19,7 +19,10 @@ same-length-2 : tie.Need-same-length-2
 same-length-2 c = search needs
 
 returns : tie.Need-returns
-returns c = after-first-refused (c .before .before .before .before .before .before .before .args .first .now) (c .before .before .before .before .before .before .before .args .first-len) (c .before .before .before .before .before .before .before .args .second .now) (c .before .before .before .before .before .before .before .args .second-len) (c .before .before .before .before .before .before .before .args .work .now) (c .before .before .before .before .before .before .before .args .fuel) (c .before .admit .result) (c .before .admit .ensures) (c .match .keys2)
+returns c =
+    let start = c .before .before .before .before .before .before .before in
+    after-first-refused (start .args .first .now) (start .args .first-len) (start .args .second .now) (start .args .second-len)
+    (start .args .work .now) (start .args .fuel) (c .before .admit .result) (c .before .admit .ensures) (c .match .keys2)
 
 admit-requires-2 : tie.Need-admit-requires-2
 admit-requires-2 c κs = search needs
@@ -37,7 +40,13 @@ same-length-5 : tie.Need-same-length-5
 same-length-5 c = search needs
 
 returns-2 : tie.Need-returns-2
-returns-2 c = after-second-refused (c .before .before .before .before .before .before .before .before .before .before .before .before .args .first .now) (c .before .before .before .before .before .before .before .before .before .before .before .before .args .first-len) (c .before .before .before .before .before .before .before .before .before .before .before .before .args .second .now) (c .before .before .before .before .before .before .before .before .before .before .before .before .args .second-len) (c .before .before .before .before .before .before .before .before .before .before .before .before .args .work .now) (c .before .before .before .before .before .before .before .before .before .before .before .before .args .fuel) (c .before .before .before .before .before .before .admit .result) (c .before .before .before .before .before .before .admit .ensures) (c .before .before .before .before .before .match .keys1) (c .before .admit2 .result) (c .before .admit2 .ensures) (c .match2 .keys2)
+returns-2 c =
+    let at-match = c .before .before .before .before .before in
+    let at-admit = at-match .before in
+    let start = at-admit .before .before .before .before .before .before in
+    after-second-refused (start .args .first .now) (start .args .first-len) (start .args .second .now) (start .args .second-len)
+    (start .args .work .now) (start .args .fuel) (at-admit .admit .result) (at-admit .admit .ensures) (at-match .match .keys1)
+    (c .before .admit2 .result) (c .before .admit2 .ensures) (c .match2 .keys2)
 
 finish-requires : tie.Need-finish-requires
 finish-requires c κs = search needs
@@ -58,7 +67,22 @@ same-length-8 : tie.Need-same-length-8
 same-length-8 c = search needs
 
 returns-3 : tie.Need-returns-3
-returns-3 c = after-both (c .before .before .before .before .before .before .before .before .before .before .before .before .before .before .before .before .before .before .before .before .before .before .before .before .before .before .before .before .before .before .before .before .args .first .now) (c .before .before .before .before .before .before .before .before .before .before .before .before .before .before .before .before .before .before .before .before .before .before .before .before .before .before .before .before .before .before .before .before .args .first-len) (c .before .before .before .before .before .before .before .before .before .before .before .before .before .before .before .before .before .before .before .before .before .before .before .before .before .before .before .before .before .before .before .before .args .second .now) (c .before .before .before .before .before .before .before .before .before .before .before .before .before .before .before .before .before .before .before .before .before .before .before .before .before .before .before .before .before .before .before .before .args .second-len) (c .before .before .before .before .before .before .before .before .before .before .before .before .before .before .before .before .before .before .before .before .before .before .before .before .before .before .before .before .before .before .before .before .args .work .now) (c .before .before .before .before .before .before .before .before .before .before .before .before .before .before .before .before .before .before .before .before .before .before .before .before .before .before .before .before .before .before .before .before .args .fuel) (c .before .before .before .before .before .before .before .before .before .before .before .before .before .before .before .before .before .before .before .before .before .before .before .before .before .before .admit .result) (c .before .before .before .before .before .before .before .before .before .before .before .before .before .before .before .before .before .before .before .before .before .before .before .before .before .before .admit .ensures) (c .before .before .before .before .before .before .before .before .before .before .before .before .before .before .before .before .before .before .before .before .before .before .before .before .before .match .keys1) (c .before .before .before .before .before .before .before .before .before .before .before .before .before .before .before .before .before .before .before .before .before .admit2 .result) (c .before .before .before .before .before .before .before .before .before .before .before .before .before .before .before .before .before .before .before .before .before .admit2 .ensures) (c .before .before .before .before .before .before .before .before .before .before .before .before .before .before .before .before .before .before .before .before .match2 .keys1) (replyOf (c .before .before .before .before .before .before .before .before .before .before .before .before .before .before .before .before .finish .result .admission)) (replyOf (c .before .before .before .before .before .before .before .before .before .finish2 .result .admission)) (outcomeOf (c .before .before .before .before .before .before .before .before .before .before .before .before .before .before .before .before .finish .result .run .outcome)) (outcomeOf (c .before .before .before .before .before .before .before .before .before .finish2 .result .run .outcome)) (c .before .before .before .before .before .before .before .before .before .before .before .before .before .before .before .before .finish .result .run .count) (c .before .before .before .before .before .before .before .before .before .finish2 .result .run .count) (c .before .before .before .before .before .before .before .before .before .before .before .before .before .before .before .before .finish .result .run .size) (c .before .before .before .before .before .before .before .before .before .finish2 .result .run .size) (c .before .before .before .before .before .before .before .before .before .before .before .before .before .before .before .before .finish .last .0) (c .before .before .before .before .before .before .before .before .before .finish2 .last .0) (c .before .before .before .before .before .before .before .before .before .before .before .before .before .before .before .before .finish .last .1 .1 .0) (c .before .before .before .before .before .before .before .before .before .finish2 .last .1 .1 .0) (answerOf (c .verdict-on .result)) (c .before .before .before .before .before .before .before .before .before .before .before .before .before .before .before .before .finish .ensures .0) (c .before .before .before .before .before .before .before .before .before .finish2 .ensures .0) (c .verdict-on .ensures)
+returns-3 c =
+    let at-finish2 = c .before .before .before .before .before .before .before .before .before in
+    let at-finish = at-finish2 .before .before .before .before .before .before .before in
+    let at-match2 = at-finish .before .before .before .before in
+    let at-admit2 = at-match2 .before in
+    let at-match = at-admit2 .before .before .before .before in
+    let at-admit = at-match .before in
+    let start = at-admit .before .before .before .before .before .before in
+    after-both (start .args .first .now) (start .args .first-len) (start .args .second .now) (start .args .second-len)
+    (start .args .work .now) (start .args .fuel) (at-admit .admit .result) (at-admit .admit .ensures) (at-match .match .keys1)
+    (at-admit2 .admit2 .result) (at-admit2 .admit2 .ensures) (at-match2 .match2 .keys1) (replyOf (at-finish .finish .result .admission))
+    (replyOf (at-finish2 .finish2 .result .admission)) (outcomeOf (at-finish .finish .result .run .outcome))
+    (outcomeOf (at-finish2 .finish2 .result .run .outcome)) (at-finish .finish .result .run .count)
+    (at-finish2 .finish2 .result .run .count) (at-finish .finish .result .run .size) (at-finish2 .finish2 .result .run .size)
+    (at-finish .finish .last .0) (at-finish2 .finish2 .last .0) (at-finish .finish .last .1 .1 .0) (at-finish2 .finish2 .last .1 .1 .0)
+    (answerOf (c .verdict-on .result)) (at-finish .finish .ensures .0) (at-finish2 .finish2 .ensures .0) (c .verdict-on .ensures)
 
 pub compare-spec : {M : Type 1} → statement M
 compare-spec =

@@ -1,6 +1,4 @@
 -- `controller::controller_check` meets its contract: checking's promise, and the number of its answer. Assumes nothing.
-use Rattle.checking.specs.Answer.{answerOf}
-use Rattle.controller.proofs.Range.{coded-check}
 use borrow.Author.Needs.{needs}
 use Rattle.controller.proofs.controller_check.Statement.{statement}
 use Rattle.controller.proofs.controller_check.Tie as tie
@@ -12,7 +10,7 @@ check-number-requires : tie.Need-check-number-requires
 check-number-requires c κs = search needs
 
 returns : tie.Need-returns
-returns c = coded-check (c .before .before .before .args .file .now) (answerOf (c .before .check-derivation .result)) (c .check-number .result) (c .before .check-derivation .ensures) (c .check-number .ensures)
+returns c = cc
 
 pub controller-check-spec : {M : Type 1} → statement M
 controller-check-spec =

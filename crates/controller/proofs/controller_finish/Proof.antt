@@ -1,6 +1,4 @@
 -- `controller::controller_finish` meets its contract: finishing's promise, and the number of its answer. Assumes nothing.
-use Rattle.finishing.specs.Answer.{replyOf, ranOf}
-use Rattle.controller.proofs.Range.{coded-finish}
 use borrow.Author.Needs.{needs}
 use Rattle.controller.proofs.controller_finish.Statement.{statement}
 use Rattle.controller.proofs.controller_finish.Tie as tie
@@ -18,13 +16,7 @@ same-length-2 : tie.Need-same-length-2
 same-length-2 c = search needs
 
 returns : tie.Need-returns
-returns c =
-    let a = c .before .before .before .before .before .before .before .before .before .before .before .args in
-    let f = c .before .before .before .before .before .before .finish in
-    coded-finish (a .area .now) (a .term-size) (a .work .now) (a .fuel) (replyOf (f .result .admission)) (ranOf (f .result .run)) (f .last .0) (f .last .1 .1 .0)
-    (c .finish-number .result)
-    (f .ensures .0)
-    (c .finish-number .ensures)
+returns c = cc
 
 pub controller-finish-spec : {M : Type 1} → statement M
 controller-finish-spec =

@@ -1,6 +1,4 @@
 -- `controller::controller_step` meets its contract: stepping's promise, and the number of its answer. Assumes nothing.
-use Rattle.stepping.specs.Answer.{answerOf}
-use Rattle.controller.proofs.Range.{coded-step}
 use borrow.Author.Needs.{needs}
 use Rattle.controller.proofs.controller_step.Statement.{statement}
 use Rattle.controller.proofs.controller_step.Tie as tie
@@ -18,11 +16,7 @@ same-length-2 : tie.Need-same-length-2
 same-length-2 c = search needs
 
 returns : tie.Need-returns
-returns c =
-    let a = c .before .before .before .before .before .before .before .before .before .before .args in
-    let s = c .before .before .before .before .before .step in
-    coded-step (a .area .now) (a .term-size) (a .work .now) (answerOf (s .result)) (s .last .0) (s .last .1 .1 .0) (c .step-number .result) (s .ensures)
-    (c .step-number .ensures)
+returns c = cc
 
 pub controller-step-spec : {M : Type 1} → statement M
 controller-step-spec =

@@ -6,15 +6,16 @@ use borrow.Author.Needs.{needs}
 use Rattle.finish_line.specs.Fed.{state, startLine}
 use Rattle.finish_line.specs.declared.Line.{Line}
 use Rattle.finish.specs.Fed.{FedFrom}
-use Rattle.finish.proofs.Feeding.{fed-none, fed-on}
+use Rattle.finish.proofs.Feeding.{fed-none, fed-once, fed-on}
 use Rattle.finish.proofs.feed_all.Statement.{statement}
 use Rattle.finish.proofs.feed_all.Tie as tie
 
 abbrev Inv-loop : tie.InvT-loop
-Inv-loop term₀ line₀ more₀ turns₀ term line more turns = (length term ≡ length term₀) × FedFrom (state startLine term₀) (state line term)
+Inv-loop term₀ failed line₀ got₀ turns₀ term line got turns =
+    (length term ≡ length term₀) × FedFrom (state startLine term₀) (state line term)
 
 abbrev μ-loop : tie.MeasureT-loop
-μ-loop term₀ line₀ more₀ turns₀ term line more turns = turns
+μ-loop term₀ failed line₀ got₀ turns₀ term line got turns = turns
 
 start-requires : tie.Need-start-requires Inv-loop μ-loop
 start-requires c κs = search needs
@@ -34,19 +35,15 @@ loop-less c = search needs
 
 loop-again : tie.Need-loop-again Inv-loop μ-loop
 loop-again c =
-    (search needs, fed-on (c .before .before .before .before .before .before .before .loop .inv .1) (c .before .before .feed-some .ensures))
+    let fed = c .before .before .feed-some in
+    let at-loop = c .before .before .before .before .before .before .before in
+    (search needs, fed-on (at-loop .loop .inv .1) (fed-once (fed .last .1 .1 .0) _ _ (fed .ensures)))
 
 same-length : tie.Need-same-length Inv-loop μ-loop
 same-length c = search needs
 
 returns : tie.Need-returns Inv-loop μ-loop
-returns c = c .before .before .loop .inv .1
-
-same-length-2 : tie.Need-same-length-2 Inv-loop μ-loop
-same-length-2 c = search needs
-
-returns-2 : tie.Need-returns-2 Inv-loop μ-loop
-returns-2 c = c .before .loop .inv .1
+returns c = c .before .loop .inv .1
 
 pub feed-all-spec : {M : Type 1} → statement M
 feed-all-spec =
@@ -61,6 +58,4 @@ feed-all-spec =
     loop-less
     loop-again
     same-length
-    returns
-    same-length-2
-    returns-2)
+    returns)

@@ -1,6 +1,10 @@
--- `finish::feed_some` meets its contract: one chunk was fed, perhaps an empty one. Assumes nothing.
-use lib.ListN.{take}
-use Rattle.finish.proofs.Feeding.{fed-once}
+-- `finish::feed_some` meets its contract: as many bytes as the read answered were fed, none where it failed. Assumes nothing.
+use mathlib.Core.Path.{sym, subst}
+use mir.Syntax.{w64}
+use mir.Val.{toZ, ofZ}
+use mir.Facts.{toZ-ofZ}
+use Rattle.libc.specs.Io.{Moved}
+use Rattle.finish.proofs.Feeding.{fed-by}
 use borrow.Author.Needs.{needs}
 use Rattle.finish.proofs.feed_some.Statement.{statement}
 use Rattle.finish.proofs.feed_some.Tie as tie
@@ -31,7 +35,16 @@ same-length c = search needs
 
 returns : tie.Need-returns
 returns c =
-    fed-once _ _ (take (c .before .before .before .before .before .count .result) (c .before .before .before .before .before .before .before .before .read .last .1 .0)) (c .before .before .feed .ensures)
+    let read = c .before .before .before .before .before .before .before .before .read in
+    let count = c .before .before .before .before .before .count in
+    let chunk = read .last .1 .0 in
+    let same = toZ-ofZ {w = w64} {z = read .result} (record { sfits = read .ok }) in
+    fed-by (toZ w64 (ofZ w64 (read .result))) chunk (count .result) 4096 _ _
+    (subst (Moved 4096) (sym same) (read .ensures))
+    (search needs)
+    (count .ensures .1)
+    (count .ensures .0 .1)
+    (c .before .before .feed .ensures)
 
 pub feed-some-spec : {M : Type 1} → statement M
 feed-some-spec =

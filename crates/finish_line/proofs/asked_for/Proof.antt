@@ -1,8 +1,4 @@
 -- `finish_line::asked_for` meets its contract: only a line that has ended is a request. Assumes nothing.
-use mathlib.Core.Path.{refl}
-use Rattle.finish_line.specs.declared.Stage.the-variants.{Ended}
-use Rattle.finish_line.specs.declared.Asked.the-variants.{Request}
-use Rattle.finish_line.proofs.Stages.{stage-asked}
 use borrow.Author.Needs.{needs}
 use Rattle.finish_line.proofs.asked_for.Statement.{statement}
 use Rattle.finish_line.proofs.asked_for.Tie as tie
@@ -16,20 +12,11 @@ enum-told-2 c = search needs
 enum-told-3 : tie.Need-enum-told-3
 enum-told-3 c = search needs
 
+enum-known-line : tie.Need-enum-known-line
+enum-known-line c = search needs
+
 enum-told-4 : tie.Need-enum-told-4
 enum-told-4 c = search needs
-
-enum-told-5 : tie.Need-enum-told-5
-enum-told-5 c = search needs
-
-enum-told-6 : tie.Need-enum-told-6
-enum-told-6 c = search needs
-
-enum-told-7 : tie.Need-enum-told-7
-enum-told-7 c = search needs
-
-enum-told-8 : tie.Need-enum-told-8
-enum-told-8 c = search needs
 
 returns : tie.Need-returns
 returns c = search needs
@@ -41,19 +28,10 @@ returns-3 : tie.Need-returns-3
 returns-3 c = search needs
 
 returns-4 : tie.Need-returns-4
-returns-4 c = search needs
+returns-4 c = rw (c .before .line .given .1)
 
 returns-5 : tie.Need-returns-5
 returns-5 c = search needs
-
-returns-6 : tie.Need-returns-6
-returns-6 c = search needs
-
-returns-7 : tie.Need-returns-7
-returns-7 c = stage-asked Ended (c .before .before .args .line) (Request (c .before .before .args .line .fuel) (c .before .before .args .line .area) (c .before .before .args .line .length)) (c .enum-told7 .given .1) refl
-
-returns-8 : tie.Need-returns-8
-returns-8 c = search needs
 
 pub asked-for-spec : {M : Type 1} → statement M
 asked-for-spec =
@@ -62,16 +40,10 @@ asked-for-spec =
     enum-told
     enum-told-2
     enum-told-3
+    enum-known-line
     enum-told-4
-    enum-told-5
-    enum-told-6
-    enum-told-7
-    enum-told-8
     returns
     returns-2
     returns-3
     returns-4
-    returns-5
-    returns-6
-    returns-7
-    returns-8)
+    returns-5)

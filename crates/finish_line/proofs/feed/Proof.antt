@@ -5,13 +5,14 @@ use Prim.Native.Nat.{_≤_, _-_}
 use native.Mathlib.Omega.{arith}
 use lib.ListN.{length, drop}
 use Rattle.finish_line.specs.Fed.{state, fed}
-use Rattle.finish_line.proofs.Stages.{fed-turn, fed-end}
+use Rattle.finish_line.proofs.Feeding.{fed-turn, fed-end}
 use borrow.Author.Needs.{needs}
 use Rattle.finish_line.proofs.feed.Statement.{statement}
 use Rattle.finish_line.proofs.feed.Tie as tie
 
 abbrev Inv-loop : tie.InvT-loop
-Inv-loop chunk term₀ l₀ i₀ term l i = (i ≤ length chunk) × (length term ≡ length term₀) × (fed (state l term) (drop i chunk) ≡ fed (state l₀ term₀) chunk)
+Inv-loop chunk term₀ l₀ i₀ term l i =
+    (i ≤ length chunk) × (length term ≡ length term₀) × (fed (state l term) (drop i chunk) ≡ fed (state l₀ term₀) chunk)
 
 abbrev μ-loop : tie.MeasureT-loop
 μ-loop chunk term₀ l₀ i₀ term l i = length chunk - i
@@ -42,7 +43,8 @@ loop-again c =
     let a = test .before .before .before .before .args in (
       omega arith,
       kept .keep .kept .1 .1 .0 ∙ l .inv .1,
-      fed-turn (a .chunk .now) (l .i) (l .l) (c .fed-line .result) (l .term) (kept .keep .last .1 .1 .0) (test .loop-test .taken) (kept .keep .ensures) (c .fed-line .ensures)
+      fed-turn (a .chunk .now) (l .i) (l .l) (c .fed-line .result) (l .term) (kept .keep .last .1 .1 .0) (test .loop-test .taken)
+          (kept .keep .ensures) (c .fed-line .ensures)
           ∙ l .inv .2,
     )
 

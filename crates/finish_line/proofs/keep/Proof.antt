@@ -1,23 +1,59 @@
--- `finish_line::keep` meets its contract: its test is the definition's. Assumes nothing.
-use mathlib.Core.Path.{sym, _∙_}
+-- `finish_line::keep` meets its contract: only the term's bytes are kept. Assumes nothing.
 use borrow.Author.Needs.{needs}
 use Rattle.finish_line.proofs.keep.Statement.{statement}
 use Rattle.finish_line.proofs.keep.Tie as tie
 
-is-kept-requires : tie.Need-is-kept-requires
-is-kept-requires c κs = search needs
+enum-told : tie.Need-enum-told
+enum-told c = search needs
 
-store-requires : tie.Need-store-requires
-store-requires c κs = search needs
+enum-told-2 : tie.Need-enum-told-2
+enum-told-2 c = search needs
+
+enum-known-line : tie.Need-enum-known-line
+enum-known-line c = search needs
+
+keep-at-requires : tie.Need-keep-at-requires
+keep-at-requires c κs = search needs
+
+enum-told-3 : tie.Need-enum-told-3
+enum-told-3 c = search needs
+
+enum-told-4 : tie.Need-enum-told-4
+enum-told-4 c = search needs
+
+returns : tie.Need-returns
+returns c = search needs
+
+returns-2 : tie.Need-returns-2
+returns-2 c = search needs
 
 same-length : tie.Need-same-length
 same-length c = search needs
 
-returns : tie.Need-returns
-returns c = rw (sym (c .before .before .before .before .before .is-kept .ensures) ∙ c .before .before .before .before .if1 .taken) (c .before .before .store .ensures)
+returns-3 : tie.Need-returns-3
+returns-3 c =
+    let at-line = c .before .before .before .before .before in
+    rw (at-line .line .given .1) (c .before .before .keep-at .ensures)
 
-returns-2 : tie.Need-returns-2
-returns-2 c = rw (sym (c .before .is-kept .ensures) ∙ c .if1 .left)
+returns-4 : tie.Need-returns-4
+returns-4 c = search needs
+
+returns-5 : tie.Need-returns-5
+returns-5 c = search needs
 
 pub keep-spec : {M : Type 1} → statement M
-keep-spec = tie.close (tie.spec is-kept-requires store-requires same-length returns returns-2)
+keep-spec =
+    tie.close
+    (tie.spec
+    enum-told
+    enum-told-2
+    enum-known-line
+    keep-at-requires
+    enum-told-3
+    enum-told-4
+    returns
+    returns-2
+    same-length
+    returns-3
+    returns-4
+    returns-5)

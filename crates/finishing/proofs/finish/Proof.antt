@@ -19,10 +19,17 @@ same-length-2 : tie.Need-same-length-2
 same-length-2 c = search needs
 
 returns : tie.Need-returns
-returns c = (after-refused (c .before .before .before .before .before .before .args .area .now) (c .before .before .before .before .before .before .args .len) (c .before .before .before .before .before .before .args .work .now) (c .before .before .before .before .before .before .args .fuel) (c .before .admit .result) (c .before .admit .ensures) (c .match .keys2), omega arith)
+returns c =
+    let start = c .before .before .before .before .before .before in
+    (after-refused (start .args .area .now) (start .args .len) (start .args .work .now) (start .args .fuel) (c .before .admit .result) (c .before .admit .ensures) (c .match .keys2), omega arith)
 
 run-term-requires : tie.Need-run-term-requires
-run-term-requires c κs = after-ready (c .before .before .before .before .before .before .before .before .before .args .area .now) (c .before .before .before .before .before .before .before .before .before .args .len) (c .before .before .before .before .before .before .before .before .before .args .work .now) (c .before .before .before .before .before .before .before .before .before .args .fuel) (c .before .before .before .before .admit .result) (c .before .before .before .before .admit .ensures) (c .before .before .before .match .keys1)
+run-term-requires c κs =
+    let at-match = c .before .before .before in
+    let at-admit = at-match .before in
+    let start = at-admit .before .before .before .before .before in
+    after-ready (start .args .area .now) (start .args .len) (start .args .work .now) (start .args .fuel) (at-admit .admit .result)
+    (at-admit .admit .ensures) (at-match .match .keys1)
 
 zero-from-requires : tie.Need-zero-from-requires
 zero-from-requires c κs = search needs
@@ -37,7 +44,19 @@ same-length-4 : tie.Need-same-length-4
 same-length-4 c = search needs
 
 returns-2 : tie.Need-returns-2
-returns-2 c = after-run (c .before .before .before .before .before .before .before .before .before .before .before .before .before .before .before .before .before .before .before .before .before .before .args .area .now) (c .before .before .before .before .before .before .before .before .before .before .before .before .before .before .before .before .before .before .before .before .before .before .args .len) (c .before .before .before .before .before .before .before .before .before .before .before .before .before .before .before .before .before .before .before .before .before .before .args .work .now) (c .before .before .before .before .before .before .before .before .before .before .before .before .before .before .before .before .before .before .before .before .before .before .args .fuel) (c .before .before .before .before .before .before .before .before .before .before .before .before .before .before .before .before .before .admit .result) (c .before .before .before .before .before .before .before .before .before .before .before .before .before .before .before .before .before .admit .ensures) (c .before .before .before .before .before .before .before .before .before .before .before .before .before .before .before .before .match .keys1) (outcomeOf (c .before .before .before .before .before .before .before .before .before .before .before .before .run-term .result .outcome)) (c .before .before .before .before .before .before .before .before .before .before .before .before .run-term .result .count) (c .before .before .before .before .before .before .before .before .before .before .before .before .run-term .result .size) (c .before .before .before .before .before .before .before .before .before .before .before .before .run-term .last .0) (c .before .before .before .before .before .before .before .before .before .before .before .before .run-term .last .1 .1 .0) (c .before .before .before .before .before .before .zero-from .last .0) (c .before .before .zero-from2 .last .0) (c .before .before .before .before .before .before .before .before .before .before .before .before .run-term .ensures) (c .before .before .before .before .before .before .before .before .before .before .before .before .run-term .kept .0) (c .before .before .before .before .before .before .before .before .before .before .before .before .run-term .kept .1 .1 .0) (c .before .before .before .before .before .before .zero-from .ensures) (c .before .before .zero-from2 .ensures)
+returns-2 c =
+    let at-zero-from2 = c .before .before in
+    let at-zero-from = at-zero-from2 .before .before .before .before in
+    let at-run-term = at-zero-from .before .before .before .before .before .before in
+    let at-match = at-run-term .before .before .before .before in
+    let at-admit = at-match .before in
+    let start = at-admit .before .before .before .before .before in
+    after-run (start .args .area .now) (start .args .len) (start .args .work .now) (start .args .fuel) (at-admit .admit .result)
+    (at-admit .admit .ensures) (at-match .match .keys1) (outcomeOf (at-run-term .run-term .result .outcome))
+    (at-run-term .run-term .result .count) (at-run-term .run-term .result .size) (at-run-term .run-term .last .0)
+    (at-run-term .run-term .last .1 .1 .0) (at-zero-from .zero-from .last .0) (at-zero-from2 .zero-from2 .last .0)
+    (at-run-term .run-term .ensures) (at-run-term .run-term .kept .0) (at-run-term .run-term .kept .1 .1 .0)
+    (at-zero-from .zero-from .ensures) (at-zero-from2 .zero-from2 .ensures)
 
 pub finish-spec : {M : Type 1} → statement M
 finish-spec =

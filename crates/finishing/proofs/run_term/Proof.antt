@@ -16,10 +16,14 @@ abbrev μ-loop : tie.MeasureT-loop
 μ-loop area₀ len work₀ fuel size₀ count₀ area work size count = fuel - count
 
 loop-holds : tie.Need-loop-holds Inv-loop μ-loop
-loop-holds c = (at-start (c .before .before .args .fuel) (c .before .before .args .area .now) (c .before .before .args .len) (c .before .before .args .work .now) (c .before .before .pre), refl)
+loop-holds c =
+    let start = c .before .before in
+    (at-start (start .args .fuel) (start .args .area .now) (start .args .len) (start .args .work .now) (start .pre), refl)
 
 step-once-requires : tie.Need-step-once-requires Inv-loop μ-loop
-step-once-requires c κs = c .before .before .before .loop .inv .0 .ready
+step-once-requires c κs =
+    let at-loop = c .before .before .before in
+    at-loop .loop .inv .0 .ready
 
 enum-told : tie.Need-enum-told Inv-loop μ-loop
 enum-told c = search needs
@@ -31,7 +35,12 @@ same-length-2 : tie.Need-same-length-2 Inv-loop μ-loop
 same-length-2 c = search needs
 
 returns : tie.Need-returns Inv-loop μ-loop
-returns c = at-no-room (c .before .before .before .before .before .before .before .before .before .before .loop .inv .0) (c .before .before .before .before .before .before .step-once .result) (c .before .before .before .before .before .before .before .before .before .loop-test .taken) (c .before .before .before .before .before .before .step-once .ensures) (c .before .match .keys1)
+returns c =
+    let at-step-once = c .before .before .before .before .before .before in
+    let at-loop-test = at-step-once .before .before .before in
+    let at-loop = at-loop-test .before in
+    at-no-room (at-loop .loop .inv .0) (at-step-once .step-once .result) (at-loop-test .loop-test .taken) (at-step-once .step-once .ensures)
+    (c .before .match .keys1)
 
 enum-known-stepping : tie.Need-enum-known-stepping Inv-loop μ-loop
 enum-known-stepping c = search needs
@@ -43,7 +52,12 @@ same-length-4 : tie.Need-same-length-4 Inv-loop μ-loop
 same-length-4 c = search needs
 
 returns-2 : tie.Need-returns-2 Inv-loop μ-loop
-returns-2 c = at-normal (c .before .before .before .before .before .before .before .before .before .before .loop .inv .0) (c .before .before .before .before .before .before .step-once .result) (c .before .before .before .before .before .before .before .before .before .loop-test .taken) (c .before .before .before .before .before .before .step-once .ensures) (c .before .match .keys2) (c .match2 .keys2)
+returns-2 c =
+    let at-step-once = c .before .before .before .before .before .before in
+    let at-loop-test = at-step-once .before .before .before in
+    let at-loop = at-loop-test .before in
+    at-normal (at-loop .loop .inv .0) (at-step-once .step-once .result) (at-loop-test .loop-test .taken) (at-step-once .step-once .ensures)
+    (c .before .match .keys2) (c .match2 .keys2)
 
 add-count : tie.Need-add-count Inv-loop μ-loop
 add-count c = search needs
@@ -52,13 +66,24 @@ loop-less : tie.Need-loop-less Inv-loop μ-loop
 loop-less c = search needs
 
 loop-again : tie.Need-loop-again Inv-loop μ-loop
-loop-again c = (at-step (c .before .before .before .before .before .before .before .before .before .before .before .before .loop .inv .0) (c .before .before .before .before .before .before .before .before .step-once .result) (c .before .before .before .before .before .before .before .before .before .before .before .loop-test .taken) (c .before .before .before .before .before .before .before .before .step-once .ensures) (c .before .stepping .given .0 .0) (c .before .stepping .given .0 .1 .0) (c .before .before .before .before .before .before .before .before .step-once .last .1 .1 .0) (c .before .stepping .given .1) (c .before .before .before .before .before .before .before .before .step-once .kept .0) (c .before .before .before .before .before .before .before .before .step-once .kept .1 .1 .0), c .before .before .before .before .before .before .before .before .step-once .kept .1 .1 .0 ∙ c .before .before .before .before .before .before .before .before .before .before .before .before .loop .inv .1)
+loop-again c =
+    let at-step-once = c .before .before .before .before .before .before .before .before in
+    let at-loop-test = at-step-once .before .before .before in
+    let at-loop = at-loop-test .before in
+    let once = at-step-once .step-once in
+    let done = c .before .stepping .given in (
+      at-step (at-loop .loop .inv .0) (once .result) (at-loop-test .loop-test .taken) (once .ensures) (done .0 .0) (done .0 .1 .0) (once .last .1 .1 .0)
+          (done .1) (once .kept .0) (once .kept .1 .1 .0),
+      once .kept .1 .1 .0 ∙ at-loop .loop .inv .1,
+    )
 
 slice-reshare-prefix-has-stop : tie.Need-slice-reshare-prefix-has-stop Inv-loop μ-loop
 slice-reshare-prefix-has-stop c = c .before .loop .inv .0 .ready .held .within
 
 slice-aggregate-has-stop : tie.Need-slice-aggregate-has-stop Inv-loop μ-loop
-slice-aggregate-has-stop c = sym (length-take-le (c .before .before .loop .size) (c .before .before .loop .area) (c .before .before .loop .inv .0 .ready .held .within))
+slice-aggregate-has-stop c =
+    let at-loop = c .before .before in
+    sym (length-take-le (at-loop .loop .size) (at-loop .loop .area) (at-loop .loop .inv .0 .ready .held .within))
 
 has-stop-requires : tie.Need-has-stop-requires Inv-loop μ-loop
 has-stop-requires c κs = search needs
@@ -70,7 +95,10 @@ same-length-6 : tie.Need-same-length-6 Inv-loop μ-loop
 same-length-6 c = search needs
 
 returns-3 : tie.Need-returns-3 Inv-loop μ-loop
-returns-3 c = at-stop (c .before .before .before .before .loop .inv .0) (c .before .before .before .loop-test .left) (sym (c .if1 .taken) ∙ c .before .has-stop .ensures)
+returns-3 c =
+    let at-loop-test = c .before .before .before in
+    let at-loop = at-loop-test .before in
+    at-stop (at-loop .loop .inv .0) (at-loop-test .loop-test .left) (sym (c .if1 .taken) ∙ c .before .has-stop .ensures)
 
 same-length-7 : tie.Need-same-length-7 Inv-loop μ-loop
 same-length-7 c = search needs
@@ -79,7 +107,9 @@ same-length-8 : tie.Need-same-length-8 Inv-loop μ-loop
 same-length-8 c = search needs
 
 returns-4 : tie.Need-returns-4 Inv-loop μ-loop
-returns-4 c = at-no-stop (c .before .before .before .before .loop .inv .0) (sym (c .if1 .left) ∙ c .before .has-stop .ensures)
+returns-4 c =
+    let at-loop = c .before .before .before .before in
+    at-no-stop (at-loop .loop .inv .0) (sym (c .if1 .left) ∙ c .before .has-stop .ensures)
 
 pub run-term-spec : {M : Type 1} → statement M
 run-term-spec =

@@ -15,13 +15,18 @@ slice-relend-prefix-step : tie.Need-slice-relend-prefix-step
 slice-relend-prefix-step c = search needs
 
 slice-aggregate-step : tie.Need-slice-aggregate-step
-slice-aggregate-step c = sym (length-take-le (c .before .needed .result) (c .before .before .before .before .args .area .now) (omega arith))
+slice-aggregate-step c =
+    let start = c .before .before .before .before in
+    sym (length-take-le (c .before .needed .result) (start .args .area .now) (omega arith))
 
 slice-relend-prefix-step-2 : tie.Need-slice-relend-prefix-step-2
 slice-relend-prefix-step-2 c = search needs
 
 slice-aggregate-step-2 : tie.Need-slice-aggregate-step-2
-slice-aggregate-step-2 c = sym (length-take-le (c .before .before .needed .result) (c .before .before .before .before .before .args .work .now) (omega arith))
+slice-aggregate-step-2 c =
+    let at-needed = c .before .before in
+    let start = at-needed .before .before .before in
+    sym (length-take-le (at-needed .needed .result) (start .args .work .now) (omega arith))
 
 step-requires : tie.Need-step-requires
 step-requires c κs = search needs
@@ -33,7 +38,13 @@ same-length-2 : tie.Need-same-length-2
 same-length-2 c = search needs
 
 returns : tie.Need-returns
-returns c = λ t h. lent-steps (c .before .before .before .before .before .before .before .before .before .before .args .area .now) (c .before .before .before .before .before .before .before .before .before .before .args .size) (c .before .before .before .before .before .before .before .before .before .before .args .work .now) (c .before .before .before .before .before .before .before .needed .result) t (answerOf (c .before .before .before .before .step .result)) (c .before .before .before .before .step .last .0) (c .before .before .before .before .step .last .1 .1 .0) (c .before .before .before .before .before .before .before .needed .ensures) (c .before .before .before .before .before .before .before .before .before .before .pre .short) (c .before .before .before .before .before .before .before .before .before .before .pre .room) h (c .before .before .before .before .step .ensures)
+returns c =
+    let at-step = c .before .before .before .before in
+    let at-needed = at-step .before .before .before in
+    let start = at-needed .before .before .before in
+    λ t h. lent-steps (start .args .area .now) (start .args .size) (start .args .work .now) (at-needed .needed .result) t
+    (answerOf (at-step .step .result)) (at-step .step .last .0) (at-step .step .last .1 .1 .0) (at-needed .needed .ensures)
+    (start .pre .short) (start .pre .room) h (at-step .step .ensures)
 
 pub step-once-spec : {M : Type 1} → statement M
 step-once-spec =

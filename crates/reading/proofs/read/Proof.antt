@@ -6,7 +6,7 @@ use native.Mathlib.Omega.{arith}
 use borrow.Author.Needs.{needs}
 use lib.ListN.{length, drop, getD}
 use Rattle.reading.specs.Reading.{readingFrom, readingOf}
-use Rattle.reading.proofs.Scan.{no-letter, letter, already-whole, whole, not-yet-whole, parts-few, start}
+use Rattle.reading.proofs.Scan.{no-letter, letter, already-whole, whole, not-yet-whole, arity-few, start}
 use Rattle.reading.proofs.read.Statement.{statement}
 use Rattle.reading.proofs.read.Tie as tie
 
@@ -20,22 +20,37 @@ loop-holds : tie.Need-loop-holds Inv-loop μ-loop
 loop-holds c = (omega arith, omega arith, start (c .before .args .s .now))
 
 returns : tie.Need-returns Inv-loop μ-loop
-returns c = sym (already-whole (c .before .before .loop .owed) (c .before .before .loop .at) (c .before .before .before .before .args .s .now) (c .before .loop-test .taken) (c .if1 .taken)) ∙ c .before .before .loop .inv .2
+returns c =
+    let at-loop = c .before .before in
+    let start = at-loop .before .before in
+    sym (already-whole (at-loop .loop .owed) (at-loop .loop .at) (start .args .s .now) (c .before .loop-test .taken) (c .if1 .taken)) ∙
+    at-loop .loop .inv .2
 
-shared-slice-read-parts-of : tie.Need-shared-slice-read-parts-of Inv-loop μ-loop
-shared-slice-read-parts-of c = omega arith
+shared-slice-read-arity : tie.Need-shared-slice-read-arity Inv-loop μ-loop
+shared-slice-read-arity c = omega arith
 
-parts-of-requires : tie.Need-parts-of-requires Inv-loop μ-loop
-parts-of-requires c κs = search needs
+arity-requires : tie.Need-arity-requires Inv-loop μ-loop
+arity-requires c κs = search needs
 
 returns-2 : tie.Need-returns-2 Inv-loop μ-loop
-returns-2 c = sym (no-letter (c .before .before .before .before .before .loop .owed) (c .before .before .before .before .before .loop .at) (c .before .parts-of .result) (c .before .before .before .before .before .before .before .args .s .now) (c .before .before .before .before .loop-test .taken) (c .before .before .before .if1 .left) (c .before .parts-of .ensures) (c .if2 .taken)) ∙ c .before .before .before .before .before .loop .inv .2
+returns-2 c =
+    let at-if1 = c .before .before .before in
+    let at-loop-test = at-if1 .before in
+    let at-loop = at-loop-test .before in
+    let start = at-loop .before .before in
+    sym
+    (no-letter (at-loop .loop .owed) (at-loop .loop .at) (c .before .arity .result) (start .args .s .now) (at-loop-test .loop-test .taken) (at-if1 .if1 .left) (c .before .arity .ensures) (c .if2 .taken))
+    ∙ at-loop .loop .inv .2
 
 sub-owed : tie.Need-sub-owed Inv-loop μ-loop
 sub-owed c = omega arith
 
 add-owed : tie.Need-add-owed Inv-loop μ-loop
-add-owed c = let few = parts-few (getD (c .before .before .before .before .before .before .before .args .s .now) (c .before .before .before .before .before .loop .at) 0) (c .before .parts-of .result) (c .before .parts-of .ensures) (c .if2 .left) in omega (arith, c .before .before .before .before .before .before .before .good .0 .1)
+add-owed c =
+    let at-loop = c .before .before .before .before .before in
+    let start = at-loop .before .before in
+    let few = arity-few (getD (start .args .s .now) (at-loop .loop .at) 0) (c .before .arity .result) (c .before .arity .ensures)
+    (c .if2 .left) in omega (arith, start .good .0 .1)
 
 add-at : tie.Need-add-at Inv-loop μ-loop
 add-at c = omega arith
@@ -44,13 +59,26 @@ loop-less : tie.Need-loop-less Inv-loop μ-loop
 loop-less c = omega arith
 
 loop-again : tie.Need-loop-again Inv-loop μ-loop
-loop-again c = let few = parts-few (getD (c .before .before .before .before .before .before .before .args .s .now) (c .before .before .before .before .before .loop .at) 0) (c .before .parts-of .result) (c .before .parts-of .ensures) (c .if2 .left) in (omega arith, omega arith, letter (c .before .before .before .before .before .loop .owed) (c .before .before .before .before .before .loop .at) (c .before .parts-of .result) (c .before .before .before .before .before .before .before .args .s .now) (c .before .before .before .before .loop-test .taken) (c .before .before .before .if1 .left) (c .before .parts-of .ensures) (c .if2 .left) ∙ c .before .before .before .before .before .loop .inv .2)
+loop-again c =
+    let at-if1 = c .before .before .before in
+    let at-loop-test = at-if1 .before in
+    let at-loop = at-loop-test .before in
+    let start = at-loop .before .before in
+    let few = arity-few (getD (start .args .s .now) (at-loop .loop .at) 0) (c .before .arity .result) (c .before .arity .ensures)
+    (c .if2 .left) in
+    (omega arith, omega arith, letter (at-loop .loop .owed) (at-loop .loop .at) (c .before .arity .result) (start .args .s .now) (at-loop-test .loop-test .taken) (at-if1 .if1 .left) (c .before .arity .ensures) (c .if2 .left) ∙ at-loop .loop .inv .2)
 
 returns-3 : tie.Need-returns-3 Inv-loop μ-loop
-returns-3 c = sym (whole (c .before .before .loop .owed) (c .before .before .loop .at) (c .before .before .before .before .args .s .now) (omega arith) (c .if3 .taken)) ∙ c .before .before .loop .inv .2
+returns-3 c =
+    let at-loop = c .before .before in
+    let start = at-loop .before .before in
+    sym (whole (at-loop .loop .owed) (at-loop .loop .at) (start .args .s .now) (omega arith) (c .if3 .taken)) ∙ at-loop .loop .inv .2
 
 returns-4 : tie.Need-returns-4 Inv-loop μ-loop
-returns-4 c = sym (not-yet-whole (c .before .before .loop .owed) (c .before .before .loop .at) (c .before .before .before .before .args .s .now) (omega arith) (c .if3 .left)) ∙ c .before .before .loop .inv .2
+returns-4 c =
+    let at-loop = c .before .before in
+    let start = at-loop .before .before in
+    sym (not-yet-whole (at-loop .loop .owed) (at-loop .loop .at) (start .args .s .now) (omega arith) (c .if3 .left)) ∙ at-loop .loop .inv .2
 
 pub read-spec : {M : Type 1} → statement M
 read-spec =
@@ -60,8 +88,8 @@ read-spec =
     μ-loop
     loop-holds
     returns
-    shared-slice-read-parts-of
-    parts-of-requires
+    shared-slice-read-arity
+    arity-requires
     returns-2
     sub-owed
     add-owed

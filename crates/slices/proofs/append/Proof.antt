@@ -1,4 +1,5 @@
--- `slices::append` meets its contract: the tests are those of `put` and `behind`, `cut` gives the piece and `copy_in` puts it. Assumes nothing.
+-- `slices::append` meets its contract: the tests are those of `put` and `behind`, `cut` gives the piece and `copy_in` puts it. Assumes
+-- nothing.
 use mathlib.Core.Path.{sym, ap, _∙_}
 use mathlib.Core.List.{List}
 use Prim.Native.Nat.{ℕ, _+_}
@@ -16,7 +17,8 @@ cut-requires c κs = search needs
 
 returns : tie.Need-returns
 returns c =
-    let a = c .before .before .before .before .args in
+    let start = c .before .before .before .before in
+    let a = start .args in
     let p = part (a .from) (a .to) (a .src .now) in (
       sym (put-short (a .at) p (a .dst .now) (omega arith)),
       sym (behind-short (a .at) p (a .dst .now) (omega arith)),
@@ -27,9 +29,11 @@ sub-if2 c = search needs
 
 returns-2 : tie.Need-returns-2
 returns-2 c =
-    let a = c .before .before .before .before .before .args in
+    let at-cut = c .before .before in
+    let start = at-cut .before .before .before in
+    let a = start .args in
     let p = part (a .from) (a .to) (a .src .now) in
-    let e = ap length (c .before .before .cut .ensures) in (
+    let e = ap length (at-cut .cut .ensures) in (
       sym (put-short (a .at) p (a .dst .now) (omega arith)),
       sym (behind-short (a .at) p (a .dst .now) (omega arith)),
     )
@@ -45,10 +49,13 @@ same-length c = search needs
 
 returns-3 : tie.Need-returns-3
 returns-3 c =
-    let a = c .before .before .before .before .before .before .before .before .before .args in
+    let at-copy-in = c .before .before in
+    let at-cut = at-copy-in .before .before .before .before in
+    let start = at-cut .before .before .before in
+    let a = start .args in
     let p = part (a .from) (a .to) (a .src .now) in
-    let e = ap length (c .before .before .before .before .before .before .cut .ensures) in (
-      c .before .before .copy-in .ensures ∙ ap (λ (l : List ℕ). put (a .at) l (a .dst .now)) (c .before .before .before .before .before .before .cut .ensures),
+    let e = ap length (at-cut .cut .ensures) in (
+      at-copy-in .copy-in .ensures ∙ ap (λ (l : List ℕ). put (a .at) l (a .dst .now)) (at-cut .cut .ensures),
       ap (λ (n : ℕ). a .at + n) e ∙ sym (behind-fits (a .at) p (a .dst .now) (omega arith)),
     )
 

@@ -35,8 +35,10 @@ loop-less c = omega arith
 
 loop-again : tie.Need-loop-again Inv-loop μ-loop
 loop-again c =
-    let a = c .before .before .before .args in
-    let l = c .before .before .loop in (
+    let at-loop = c .before .before in
+    let start = at-loop .before in
+    let a = start .args in
+    let l = at-loop .loop in (
       omega arith,
       paste-turn
           (a .dst .now)
@@ -59,12 +61,13 @@ same-length c = c .before .loop .inv .2
 
 returns : tie.Need-returns Inv-loop μ-loop
 returns c =
-    let a = c .before .before .args in
+    let start = c .before .before in
+    let a = start .args in
     let l = c .before .loop in
     let whole : l .i ≡ length (a .piece .now) = omega arith in
     l .inv .1
     ∙ ap (paste (a .dst .now) (a .at) (a .piece .now)) whole
-    ∙ paste-put (a .at) (a .piece .now) (a .dst .now) (c .before .before .pre)
+    ∙ paste-put (a .at) (a .piece .now) (a .dst .now) (start .pre)
 
 pub copy-in-spec : {M : Type 1} → statement M
 copy-in-spec =

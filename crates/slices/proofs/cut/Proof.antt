@@ -10,7 +10,9 @@ slice-aggregate-result : tie.Need-slice-aggregate-result
 slice-aggregate-result c = search needs
 
 returns : tie.Need-returns
-returns c = sym (part-empty (c .before .before .args .from) (c .before .before .args .to) (c .before .before .args .s .now) (c .before .if1 .taken))
+returns c =
+    let start = c .before .before in
+    sym (part-empty (start .args .from) (start .args .to) (start .args .s .now) (c .before .if1 .taken))
 
 sub-result : tie.Need-sub-result
 sub-result c = search needs
@@ -34,13 +36,17 @@ part-result-end-2 : tie.Need-part-result-end-2
 part-result-end-2 c = search needs
 
 returns-3 : tie.Need-returns-3
-returns-3 c = sym (part-clip (c .before .before .before .before .args .from) (c .before .before .before .before .args .to) (c .before .before .before .before .args .s .now) (omega arith))
+returns-3 c =
+    let start = c .before .before .before .before in
+    sym (part-clip (start .args .from) (start .args .to) (start .args .s .now) (omega arith))
 
 slice-aggregate-result-2 : tie.Need-slice-aggregate-result-2
 slice-aggregate-result-2 c = search needs
 
 returns-4 : tie.Need-returns-4
-returns-4 c = sym (part-past (c .before .before .before .before .args .from) (c .before .before .before .before .args .to) (c .before .before .before .before .args .s .now) (omega arith))
+returns-4 c =
+    let start = c .before .before .before .before in
+    sym (part-past (start .args .from) (start .args .to) (start .args .s .now) (omega arith))
 
 pub cut-spec : {M : Type 1} → statement M
 cut-spec =

@@ -17,8 +17,10 @@ same-requires c κs = search needs
 
 returns : tie.Need-returns
 returns c =
-    let a = c .before .before .before .before .before .args in
-    let p = c .before .before .cut .ensures in
+    let at-cut = c .before .before in
+    let start = at-cut .before .before .before in
+    let a = start .args in
+    let p = at-cut .cut .ensures in
     let q = c .before .cut2 .ensures in
     same-unique
     (c .same .result)

@@ -1,4 +1,5 @@
--- `slices::zero_from` meets its contract. The loop's invariant: `dst` is what it was with the first i - at of the zeros pasted in from `at`.
+-- `slices::zero_from` meets its contract. The loop's invariant: `dst` is what it was with the first i - at of the zeros pasted in from
+-- `at`.
 -- A turn is `paste-turn`. The measure is what is left of `dst`. Assumes nothing.
 use mathlib.Core.Path.{_≡_, refl, sym, ap, _∙_}
 use mathlib.Core.List.{List, _++_, append-nil}
@@ -50,7 +51,8 @@ loop-less c = omega arith
 
 loop-again : tie.Need-loop-again Inv-loop μ-loop
 loop-again c =
-    let a = c .before .before .args in
+    let start = c .before .before in
+    let a = start .args in
     let l = c .before .loop in
     let next : l .i - a .at + 1 ≡ l .i + 1 - a .at = omega arith in (
       omega arith,
@@ -77,7 +79,8 @@ same-length c = c .before .loop .inv .3
 
 returns : tie.Need-returns Inv-loop μ-loop
 returns c =
-    let a = c .before .before .args in
+    let start = c .before .before in
+    let a = start .args in
     let l = c .before .loop in
     l .inv .2 ∙ pasted (a .dst .now) (a .at) (l .i - a .at) (omega arith)
 

@@ -1,10 +1,21 @@
 -- `stepping::advance` meets its contract: each of its three ways out is a law of `Stepped`. Assumes nothing.
-use mathlib.Core.Path.{sym, subst}
+use mathlib.Core.Path.{sym}
 use borrow.Author.Needs.{needs}
-use Rattle.stepping.specs.Spot.{Begins}
-use Rattle.stepping.proofs.Stepped.{Makes, found-makes, after-normal, after-no-room, after-step}
+use lib.Seq.{length-take-le}
+use Rattle.calculus.specs.Term.{Term}
+use Rattle.stepping.specs.Held.{Holds}
+use Rattle.stepping.proofs.Stepped.{Makes, held-makes, after-normal, after-no-room, after-step}
 use Rattle.stepping.proofs.advance.Statement.{statement}
 use Rattle.stepping.proofs.advance.Tie as tie
+
+slice-reshare-prefix-redex : tie.Need-slice-reshare-prefix-redex
+slice-reshare-prefix-redex c = search needs
+
+slice-aggregate-redex : tie.Need-slice-aggregate-redex
+slice-aggregate-redex c =
+    let start = c .before .before .before in
+    let a = start .args in
+    sym (length-take-le (a .len) (a .area .now) (start .pre .0))
 
 redex-requires : tie.Need-redex-requires
 redex-requires c κs = search needs
@@ -20,13 +31,25 @@ same-length-2 c = search needs
 
 returns : tie.Need-returns
 returns c =
-    let a = c .before .before .before .before .before .before .before .before .before .before .before .before .args in
-    let found = c .before .before .before .before .before .before .before .before .redex .ensures .1 in
-    let cleared = c .before .before .before .before .clear .ensures in
-    λ h. after-normal h (a .work .now) (found h) (c .before .before .before .before .before .before .before .if1 .taken) (cleared .0) (cleared .1)
+    let at-clear = c .before .before .before .before in
+    let at-if1 = at-clear .before .before .before in
+    let at-redex = at-if1 .before in
+    let start = at-redex .before .before .before .before in
+    let a = start .args in
+    let cleared = at-clear .clear .ensures in
+    λ t h. after-normal h (a .work .now) (at-redex .redex .ensures) (at-if1 .if1 .taken) (cleared .0) (cleared .1)
+
+slice-reshare-prefix-rewrite-at : tie.Need-slice-reshare-prefix-rewrite-at
+slice-reshare-prefix-rewrite-at c = search needs
+
+slice-aggregate-rewrite-at : tie.Need-slice-aggregate-rewrite-at
+slice-aggregate-rewrite-at c =
+    let start = c .before .before .before .before .before .before in
+    let a = start .args in
+    sym (length-take-le (a .len) (a .area .now) (start .pre .0))
 
 rewrite-at-requires : tie.Need-rewrite-at-requires
-rewrite-at-requires c κs = c .before .before .redex .ensures .0 (c .before .if1 .left)
+rewrite-at-requires c κs = search needs
 
 sub-if2 : tie.Need-sub-if2
 sub-if2 c = search needs
@@ -45,16 +68,29 @@ same-length-4 c = search needs
 
 returns-2 : tie.Need-returns-2
 returns-2 c =
-    let a = c .before .before .before .before .before .before .before .before .before .before .before .before .before .before .before .before .args in
-    let pre = c .before .before .before .before .before .before .before .before .before .before .before .before .before .before .before .before .pre in
-    let found = c .before .before .before .before .before .before .before .before .before .before .before .before .redex .ensures .1 in
-    let at = c .before .before .before .before .before .before .before .before .before .rewrite-at in
-    let room = c .before .before .before .before .before .before .before .if2 in
-    let growth = c .before .before .before .before .before .before .before .before .growth .ensures in
-    let makes : (h : Begins (a .area .now) (a .len)) → Makes (h .term) (a .area .now) (a .len) (at .result) =
-    λ h. subst (Makes (h .term) (a .area .now) (a .len)) (sym (at .ensures)) (found-makes h (found h) (c .before .before .before .before .before .before .before .before .before .before .before .if1 .left)) in
-    let cleared = c .before .before .before .before .clear2 .ensures in
-    λ h. after-no-room h (a .work .now) (makes h) growth (pre .0) (room .taken) (cleared .0) (cleared .1)
+    let at-clear2 = c .before .before .before .before in
+    let at-if2 = at-clear2 .before .before .before in
+    let at-growth = at-if2 .before in
+    let at-rewrite-at = at-growth .before in
+    let at-if1 = at-rewrite-at .before .before in
+    let at-redex = at-if1 .before in
+    let start = at-redex .before .before .before .before in
+    let a = start .args in
+    let pre = start .pre in
+    let w = at-rewrite-at .rewrite-at in
+    let makes : (t : Term) → Holds (a .area .now) (a .len) t → Makes t (w .result) =
+    λ t h. held-makes h (w .result) (at-redex .redex .ensures) (at-if1 .if1 .left) (w .ensures) in
+    let cleared = at-clear2 .clear2 .ensures in
+    λ t h. after-no-room h (a .work .now) (makes t h) (at-growth .growth .ensures) (at-if2 .if2 .taken) (cleared .0) (cleared .1)
+
+slice-reshare-prefix-write : tie.Need-slice-reshare-prefix-write
+slice-reshare-prefix-write c = search needs
+
+slice-aggregate-write : tie.Need-slice-aggregate-write
+slice-aggregate-write c =
+    let start = c .before .before .before .before .before .before .before .before .before .before in
+    let a = start .args in
+    sym (length-take-le (a .len) (a .area .now) (start .pre .0))
 
 write-requires : tie.Need-write-requires
 write-requires c κs = search needs
@@ -70,26 +106,37 @@ same-length-6 c = search needs
 
 returns-3 : tie.Need-returns-3
 returns-3 c =
-    let a = c .before .before .before .before .before .before .before .before .before .before .before .before .before .before .before .before .before .before .before .before .before .args in
-    let pre = c .before .before .before .before .before .before .before .before .before .before .before .before .before .before .before .before .before .before .before .before .before .pre in
-    let found = c .before .before .before .before .before .before .before .before .before .before .before .before .before .before .before .before .before .redex .ensures .1 in
-    let at = c .before .before .before .before .before .before .before .before .before .before .before .before .before .before .rewrite-at in
-    let room = c .before .before .before .before .before .before .before .before .before .before .before .before .if2 in
-    let growth = c .before .before .before .before .before .before .before .before .before .before .before .before .before .growth .ensures in
-    let makes : (h : Begins (a .area .now) (a .len)) → Makes (h .term) (a .area .now) (a .len) (at .result) =
-    λ h. subst (Makes (h .term) (a .area .now) (a .len)) (sym (at .ensures)) (found-makes h (found h) (c .before .before .before .before .before .before .before .before .before .before .before .before .before .before .before .before .if1 .left)) in
-    let put = c .before .before .before .before .put-back .ensures in
-    λ h. after-step h (a .work .now) (makes h) growth (pre .0) (room .left) (pre .1) (c .before .before .before .before .before .before .before .before .before .write .ensures) (put .0) (put .1)
+    let at-put-back = c .before .before .before .before in
+    let at-write = at-put-back .before .before .before .before .before in
+    let at-if2 = at-write .before .before .before in
+    let at-growth = at-if2 .before in
+    let at-rewrite-at = at-growth .before in
+    let at-if1 = at-rewrite-at .before .before in
+    let at-redex = at-if1 .before in
+    let start = at-redex .before .before .before .before in
+    let a = start .args in
+    let pre = start .pre in
+    let w = at-rewrite-at .rewrite-at in
+    let makes : (t : Term) → Holds (a .area .now) (a .len) t → Makes t (w .result) =
+    λ t h. held-makes h (w .result) (at-redex .redex .ensures) (at-if1 .if1 .left) (w .ensures) in
+    let written = at-write .write .ensures in
+    let put = at-put-back .put-back .ensures in
+    λ t h. after-step h (a .work .now) (makes t h) (at-growth .growth .ensures) (at-if2 .if2 .left) (pre .1) (written .0) (written .1)
+    (put .0) (put .1)
 
 pub advance-spec : {M : Type 1} → statement M
 advance-spec =
     tie.close
     (tie.spec
+    slice-reshare-prefix-redex
+    slice-aggregate-redex
     redex-requires
     clear-requires
     same-length
     same-length-2
     returns
+    slice-reshare-prefix-rewrite-at
+    slice-aggregate-rewrite-at
     rewrite-at-requires
     sub-if2
     growth-requires
@@ -97,6 +144,8 @@ advance-spec =
     same-length-3
     same-length-4
     returns-2
+    slice-reshare-prefix-write
+    slice-aggregate-write
     write-requires
     put-back-requires
     same-length-5

@@ -21,8 +21,12 @@ same-length-2 c = search needs
 
 returns : tie.Need-returns
 returns c =
-    let a = c .before .before .before .before .before .before .before .before .before .before .args in
-    (c .before .before .before .before .before .before .zero-from .ensures, c .before .before .zero-from2 .ensures ∙ ap (λ (n : ℕ). replicate n 0) (sub-zero (length (a .work .now))))
+    let at-zero-from2 = c .before .before in
+    let at-zero-from = at-zero-from2 .before .before .before .before in
+    let start = at-zero-from .before .before .before .before in
+    let a = start .args in
+    let all = sub-zero (length (a .work .now)) in
+    (at-zero-from .zero-from .ensures, at-zero-from2 .zero-from2 .ensures ∙ ap (λ (n : ℕ). replicate n 0) all)
 
 pub clear-spec : {M : Type 1} → statement M
 clear-spec =

@@ -18,10 +18,14 @@ same-length-2 c = search needs
 
 returns : tie.Need-returns
 returns c =
-    let a = c .before .before .before .before .before .before .before .before .before .before .before .before .before .before .args in
-    let put = c .before .before .before .before .before .before .before .before .before .append in
-    let cleared = c .before .before .before .before .clear in (
-      holding-put (a .size) (a .work .now) (a .area .now) (put .last .1 .1 .1 .0) (cleared .last .0) (put .ensures .0) (cleared .ensures .0),
+    let at-clear = c .before .before .before .before in
+    let at-append = at-clear .before .before .before .before .before in
+    let start = at-append .before .before .before .before .before in
+    let a = start .args in
+    let put = at-append .append in
+    let cleared = at-clear .clear in (
+      holding-put (a .size) (a .work .now) (a .area .now) (put .last .1 .1 .1 .0) (cleared .last .0) (put .ensures .0)
+          (cleared .ensures .0),
       cleared .ensures .1,
     )
 

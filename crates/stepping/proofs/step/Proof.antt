@@ -1,4 +1,5 @@
--- `stepping::step` meets its contract: each refusal is a law of `Stepped`, and what reading answers is handed to `advance`. Assumes nothing.
+-- `stepping::step` meets its contract: each refusal is a law of `Stepped`, and what reading answers is handed to `advance`. Assumes
+-- nothing.
 use Prim.Native.Nat.{ℕ, _≤_}
 use native.Mathlib.Omega.{arith}
 use mathlib.Core.Path.{_≡_, sym, _∙_, ap}
@@ -9,10 +10,12 @@ use denote.Enum.Declared.{tagOf}
 use borrow.Author.Needs.{needs}
 use lib.ListN.{length, take}
 use lib.Seq.{length-take-le}
+use Rattle.calculus.specs.Limits.{areaLimit}
 use Rattle.reading.specs.declared.Reading.{Reading}
 use Rattle.reading.specs.declared.Reading.the-variants.{Whole, NoLetter, NotWhole, Beyond}
 use Rattle.reading.proofs.Reading.{the-type}
-use Rattle.reading.specs.Reading.{readingOf, refusal}
+use Rattle.reading.specs.Reply.{passedOn}
+use Rattle.reading.specs.Reading.{readingOf}
 use Rattle.reading.specs.Answer.{answerOf as readingAnswer}
 use Rattle.stepping.specs.Stepping.{After, steppingOf}
 use Rattle.stepping.proofs.Stepped.{area-refused, work-refused, length-refused, reading-refused, reading-answered}
@@ -21,9 +24,9 @@ use Rattle.stepping.proofs.step.Tie as tie
 
 -- what is not whole is refused
 unread :
-    (area : List ℕ) (len : ℕ) (work : List ℕ) → length area ≤ 16384 → length area ≤ length work → len ≤ length area →
+    (area : List ℕ) (len : ℕ) (work : List ℕ) → length area ≤ areaLimit → length area ≤ length work → len ≤ length area →
     (r : Reading) → readingAnswer r ≡ readingOf (take len area) → OneOf (1 ∷ 2 ∷ 3 ∷ []) (tagOf the-type r) →
-    After.after (refusal (readingAnswer r)) area work ≡ steppingOf area len work
+    After.after (passedOn (readingAnswer r)) area work ≡ steppingOf area len work
 unread area len work short enough within (Whole n) e k = absurd (⊎-elim (λ h. omega arith) (⊎-elim (λ h. omega arith) (λ h. omega arith)) k)
 unread area len work short enough within (NoLetter place) e k = reading-refused area len work short enough within 5 place e
 unread area len work short enough within (NotWhole place) e k = reading-refused area len work short enough within 6 place e
@@ -31,25 +34,30 @@ unread area len work short enough within (Beyond place) e k = reading-refused ar
 
 returns : tie.Need-returns
 returns c =
-    let a = c .before .before .before .args in
+    let start = c .before .before .before in
+    let a = start .args in
     area-refused (a .area .now) (a .len) (a .work .now) (c .if1 .taken)
 
 returns-2 : tie.Need-returns-2
 returns-2 c =
-    let a = c .before .before .before .before .args in
+    let start = c .before .before .before .before in
+    let a = start .args in
     work-refused (a .area .now) (a .len) (a .work .now) (c .before .if1 .left) (c .if2 .taken)
 
 returns-3 : tie.Need-returns-3
 returns-3 c =
-    let a = c .before .before .before .before .before .args in
-    length-refused (a .area .now) (a .len) (a .work .now) (c .before .before .if1 .left) (c .before .if2 .left) (c .if3 .taken)
+    let at-if1 = c .before .before in
+    let start = at-if1 .before .before .before in
+    let a = start .args in
+    length-refused (a .area .now) (a .len) (a .work .now) (at-if1 .if1 .left) (c .before .if2 .left) (c .if3 .taken)
 
 slice-reshare-prefix-read : tie.Need-slice-reshare-prefix-read
 slice-reshare-prefix-read c = search needs
 
 slice-aggregate-read : tie.Need-slice-aggregate-read
 slice-aggregate-read c =
-    let a = c .before .before .before .before .before .before .args in
+    let start = c .before .before .before .before .before .before in
+    let a = start .args in
     sym (length-take-le (a .len) (a .area .now) (c .before .if3 .left))
 
 read-requires : tie.Need-read-requires
@@ -63,16 +71,28 @@ same-length c = search needs
 
 returns-4 : tie.Need-returns-4
 returns-4 c =
-    let a = c .before .before .before .before .before .before .before .before .args in
-    unread (a .area .now) (a .len) (a .work .now) (c .before .before .before .before .before .if1 .left) (c .before .before .before .before .if2 .left) (c .before .before .before .if3 .left) (c .before .read .result) (c .before .read .ensures) (c .match .keys2)
+    let at-if3 = c .before .before .before in
+    let at-if2 = at-if3 .before in
+    let at-if1 = at-if2 .before in
+    let start = at-if1 .before .before .before in
+    let a = start .args in
+    unread (a .area .now) (a .len) (a .work .now) (at-if1 .if1 .left) (at-if2 .if2 .left) (at-if3 .if3 .left) (c .before .read .result)
+    (c .before .read .ensures) (c .match .keys2)
 
 advance-requires : tie.Need-advance-requires
 advance-requires c κs =
-    let a = c .before .before .before .before .before .before .before .before .before .before .before .before .args in
-    let reading = c .before .before .before .reading .given in
-    let answer = ap readingAnswer (sym (reading .1)) ∙ c .before .before .before .before .before .read .ensures in
-    let read = reading-answered (a .area .now) (a .len) (a .work .now) (c .before .before .before .before .before .before .before .before .before .if1 .left) (c .before .before .before .before .before .before .before .before .if2 .left) (c .before .before .before .before .before .before .before .if3 .left) (reading .0 .0) answer in
-    (read .1, c .before .before .before .before .before .before .before .before .if2 .left)
+    let at-reading = c .before .before .before in
+    let at-read = at-reading .before .before in
+    let at-if3 = at-read .before .before in
+    let at-if2 = at-if3 .before in
+    let at-if1 = at-if2 .before in
+    let start = at-if1 .before .before .before in
+    let a = start .args in
+    let reading = at-reading .reading .given in
+    let answer = ap readingAnswer (sym (reading .1)) ∙ at-read .read .ensures in
+    let read = reading-answered (a .area .now) (a .len) (a .work .now) (at-if1 .if1 .left) (at-if2 .if2 .left) (at-if3 .if3 .left)
+    (reading .0 .0) answer in
+    (read .1 .within, at-if2 .if2 .left)
 
 same-length-2 : tie.Need-same-length-2
 same-length-2 c = search needs
@@ -82,11 +102,19 @@ same-length-3 c = search needs
 
 returns-5 : tie.Need-returns-5
 returns-5 c =
-    let a = c .before .before .before .before .before .before .before .before .before .before .before .before .before .before .before .before .before .args in
-    let reading = c .before .before .before .before .before .before .before .before .reading .given in
-    let answer = ap readingAnswer (sym (reading .1)) ∙ c .before .before .before .before .before .before .before .before .before .before .read .ensures in
-    let read = reading-answered (a .area .now) (a .len) (a .work .now) (c .before .before .before .before .before .before .before .before .before .before .before .before .before .before .if1 .left) (c .before .before .before .before .before .before .before .before .before .before .before .before .before .if2 .left) (c .before .before .before .before .before .before .before .before .before .before .before .before .if3 .left) (reading .0 .0) answer in
-    c .before .before .before .before .advance .ensures (read .0) ∙ sym (read .2)
+    let at-advance = c .before .before .before .before in
+    let at-reading = at-advance .before .before .before .before in
+    let at-read = at-reading .before .before in
+    let at-if3 = at-read .before .before in
+    let at-if2 = at-if3 .before in
+    let at-if1 = at-if2 .before in
+    let start = at-if1 .before .before .before in
+    let a = start .args in
+    let reading = at-reading .reading .given in
+    let answer = ap readingAnswer (sym (reading .1)) ∙ at-read .read .ensures in
+    let read = reading-answered (a .area .now) (a .len) (a .work .now) (at-if1 .if1 .left) (at-if2 .if2 .left) (at-if3 .if3 .left)
+    (reading .0 .0) answer in
+    at-advance .advance .ensures (read .0) (read .1) ∙ sym (read .2)
 
 pub step-spec : {M : Type 1} → statement M
 step-spec =

@@ -28,13 +28,23 @@ add-result : tie.Need-add-result Inv-loop μ-loop
 add-result c = omega arith
 
 returns : tie.Need-returns Inv-loop μ-loop
-returns c = sym (at-empty (c .before .before .before .loop .at) (c .before .before .before .before .before .args .s .now) (c .before .before .loop-test .taken) (c .if1 .taken)) ∙ c .before .before .before .loop .inv
+returns c =
+    let at-loop-test = c .before .before in
+    let at-loop = at-loop-test .before in
+    let start = at-loop .before .before in
+    sym (at-empty (at-loop .loop .at) (start .args .s .now) (at-loop-test .loop-test .taken) (c .if1 .taken)) ∙ at-loop .loop .inv
 
 shared-slice-read-if2 : tie.Need-shared-slice-read-if2 Inv-loop μ-loop
 shared-slice-read-if2 c = omega arith
 
 returns-2 : tie.Need-returns-2 Inv-loop μ-loop
-returns-2 c = sym (at-other (c .before .before .before .before .before .loop .at) (c .before .before .before .before .before .before .before .args .s .now) (c .before .before .before .before .loop-test .taken) (c .before .before .if1 .left) (c .if2 .taken)) ∙ c .before .before .before .before .before .loop .inv
+returns-2 c =
+    let at-if1 = c .before .before in
+    let at-loop-test = at-if1 .before .before in
+    let at-loop = at-loop-test .before in
+    let start = at-loop .before .before in
+    sym (at-other (at-loop .loop .at) (start .args .s .now) (at-loop-test .loop-test .taken) (at-if1 .if1 .left) (c .if2 .taken)) ∙ at-loop
+    .loop .inv
 
 add-simple-end : tie.Need-add-simple-end Inv-loop μ-loop
 add-simple-end c = omega arith
@@ -44,16 +54,23 @@ simple-end-requires c κs = search needs
 
 loop-less : tie.Need-loop-less Inv-loop μ-loop
 loop-less c =
-    let bounds = end-bounds (c .before .before .before .before .before .before .before .before .args .s .now) (c .before .before .before .before .before .before .loop .at + 1) (omega arith) in
+    let at-loop = c .before .before .before .before .before .before in
+    let start = at-loop .before .before in
+    let bounds = end-bounds (start .args .s .now) (at-loop .loop .at + 1) (omega arith) in
     omega (arith, c .simple-end .ensures)
 
 loop-again : tie.Need-loop-again Inv-loop μ-loop
 loop-again c =
-    ap (λ (n : ℕ). owes 0 true (drop n (c .before .before .before .before .before .before .before .before .args .s .now))) (c .simple-end .ensures) ∙
-    sym (at-bind (c .before .before .before .before .before .before .loop .at) (c .before .before .before .before .before .before .before .before .args .s .now) (c .before .before .before .before .before .loop-test .taken) (c .before .if2 .left)) ∙ c .before .before .before .before .before .before .loop .inv
+    let at-loop-test = c .before .before .before .before .before in
+    let at-loop = at-loop-test .before in
+    let start = at-loop .before .before in
+    ap (λ (n : ℕ). owes 0 true (drop n (start .args .s .now))) (c .simple-end .ensures) ∙
+    sym (at-bind (at-loop .loop .at) (start .args .s .now) (at-loop-test .loop-test .taken) (c .before .if2 .left)) ∙ at-loop .loop .inv
 
 returns-3 : tie.Need-returns-3 Inv-loop μ-loop
-returns-3 c = sym (at-end (c .before .loop .at) (c .before .before .before .args .s .now) (c .loop-test .left)) ∙ c .before .loop .inv
+returns-3 c =
+    let start = c .before .before .before in
+    sym (at-end (c .before .loop .at) (start .args .s .now) (c .loop-test .left)) ∙ c .before .loop .inv
 
 pub is-context-spec : {M : Type 1} → statement M
 is-context-spec =

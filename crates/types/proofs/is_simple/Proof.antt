@@ -12,7 +12,9 @@ simple-end-requires : tie.Need-simple-end-requires
 simple-end-requires c κs = search needs
 
 returns : tie.Need-returns
-returns c = ap (λ (n : ℕ). eqb n (length (c .before .before .args .s .now))) (c .simple-end .ensures) ∙ simple-test (c .before .before .args .s .now)
+returns c =
+    let start = c .before .before in
+    ap (λ (n : ℕ). eqb n (length (start .args .s .now))) (c .simple-end .ensures) ∙ simple-test (start .args .s .now)
 
 pub is-simple-spec : {M : Type 1} → statement M
 is-simple-spec = tie.close (tie.spec simple-end-requires returns)

@@ -1,29 +1,20 @@
-//! Runs the two programs of the engine on every program row.
-//!
-//! Arguments: the folder of the programs, then the names of those to run.
+//! Runs the two programs of the engine on every program row. Its argument is the folder of the programs.
 
 use harness::program_tests::*;
 use harness::suite::Suite;
 use std::path::PathBuf;
 
 fn tests() -> i32 {
-    let mut words = std::env::args().skip(1);
-    let folder = PathBuf::from(words.next().expect("the folder of the programs"));
+    let folder = PathBuf::from(std::env::args().nth(1).expect("the folder of the programs"));
+    let processes = Processes { folder };
     let mut suite = Suite::new();
-    for name in words {
-        let processes = Processes { folder: folder.clone() };
-        match name.as_str() {
-            "finish" => {
-                known_finishing(&mut suite, "engine", &processes);
-                predicted_finishing(&mut suite, "engine", &processes);
-            }
-            "check_file" => {
-                known_checking(&mut suite, "engine", &processes);
-                predicted_checking(&mut suite, "engine", &processes);
-            }
-            other => panic!("no program is called {other}"),
-        }
-        slowly(&mut suite, "engine", &name, folder.clone());
+    known_finishing(&mut suite, "engine", &processes);
+    known_checking(&mut suite, "engine", &processes);
+    predicted_finishing(&mut suite, "engine", &processes);
+    predicted_checking(&mut suite, "engine", &processes);
+    for program in ["finish", "check_file"] {
+        slowly(&mut suite, "engine", program, &processes);
+        failing(&mut suite, "engine", program, &processes);
     }
     suite.end()
 }

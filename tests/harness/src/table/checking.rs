@@ -21,8 +21,8 @@ fn raw(name: &str, file: Vec<u8>, reply: &str) -> Row {
     Row { name: name.to_string(), file, reply: reply.to_string() }
 }
 
-const J: &str = "*a1 J a J - -";
-const I: &str = "1 I 1 I - -";
+pub const J: &str = "*a1 J a J - -";
+pub const I: &str = "1 I 1 I - -";
 
 pub fn rows() -> Vec<Row> {
     let groups = [
@@ -45,7 +45,7 @@ pub fn rows() -> Vec<Row> {
     groups.into_iter().flatten().collect()
 }
 
-/// Examples 11 and 12 of document 01.
+/// Examples 11 and 12 (REQUIREMENTS, Examples).
 pub fn examples() -> Vec<Row> {
     vec![row(&[J, I, "1 AIJ >aa A 2 1"], "accepted 3"), row(&[J, I, "1 AIJ >aa A 1 2"], "18@3")]
 }

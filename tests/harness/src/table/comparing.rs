@@ -7,25 +7,25 @@ pub struct Row {
     pub work: usize,
     pub fuel: u64,
     /// `number@place`, `same`, `different` or `undecided`.
-    pub answer: &'static str,
+    pub reply: &'static str,
     /// The terms afterwards; not looked at after a refusal.
     pub after: [&'static str; 2],
 }
 
 type Terms = [&'static str; 2];
 
-fn row(terms: Terms, areas: [usize; 2], work: usize, fuel: u64, answer: &'static str, after: Terms) -> Row {
+fn row(terms: Terms, areas: [usize; 2], work: usize, fuel: u64, reply: &'static str, after: Terms) -> Row {
     let [first, second] = terms;
-    let name = format!("{first} and {second} in {areas:?} work {work} fuel {fuel} is {answer}");
-    Row { name, terms, areas, work, fuel, answer, after }
+    let name = format!("{first} and {second} in {areas:?} work {work} fuel {fuel} is {reply}");
+    Row { name, terms, areas, work, fuel, reply, after }
 }
 
-fn ample(terms: Terms, fuel: u64, answer: &'static str, after: Terms) -> Row {
-    row(terms, [50, 60], 70, fuel, answer, after)
+fn ample(terms: Terms, fuel: u64, reply: &'static str, after: Terms) -> Row {
+    row(terms, [50, 60], 70, fuel, reply, after)
 }
 
-fn refused(terms: Terms, areas: [usize; 2], work: usize, fuel: u64, answer: &'static str) -> Row {
-    row(terms, areas, work, fuel, answer, ["", ""])
+fn refused(terms: Terms, areas: [usize; 2], work: usize, fuel: u64, reply: &'static str) -> Row {
+    row(terms, areas, work, fuel, reply, ["", ""])
 }
 
 pub fn rows() -> Vec<Row> {

@@ -19,7 +19,7 @@ fn row(term: &str, area: usize, fuel: u64, reply: &str, after: &str) -> Row {
     Row { name, term: term.into(), area, fuel, reply: reply.to_string(), after: after.into() }
 }
 
-/// The finishing rows among document 01's twelve examples.
+/// The finishing rows among the twelve examples (REQUIREMENTS, Examples).
 pub fn examples() -> Vec<Row> {
     vec![
         row("J", AMPLE, 100, "finished 0", "J"),
@@ -41,7 +41,7 @@ pub fn examples() -> Vec<Row> {
 pub const EXAMPLE_2_RULES: [(u8, &str); 6] =
     [(1, ".BIIHJRJ"), (8, "..BIIJ.BIIRJ"), (6, ".I.BIIRJ"), (5, ".BIIRJ"), (7, ".IJ"), (5, "J")];
 
-/// The rows of replies.md, and their neighbours.
+/// Runs at the edges of each outcome, and their neighbours.
 pub fn rows() -> Vec<Row> {
     vec![
         row(".BII.JRJ", 11, 0, "spent 0", ".BII.JRJ"),

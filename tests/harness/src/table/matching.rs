@@ -1,24 +1,22 @@
 //! Matching: two files; `match`, `no match` or `number@line`.
 
-use super::checking::file;
+use super::checking::{file, I, J};
 use crate::terms::repeated;
 
 pub struct Row {
     pub name: &'static str,
     pub files: [Vec<u8>; 2],
-    pub answer: &'static str,
+    pub reply: &'static str,
 }
 
-fn row(name: &'static str, first: &[&str], second: &[&str], answer: &'static str) -> Row {
-    Row { name, files: [file(first), file(second)], answer }
+fn row(name: &'static str, first: &[&str], second: &[&str], reply: &'static str) -> Row {
+    Row { name, files: [file(first), file(second)], reply }
 }
 
-fn raw(name: &'static str, first: &[u8], second: &[u8], answer: &'static str) -> Row {
-    Row { name, files: [first.to_vec(), second.to_vec()], answer }
+fn raw(name: &'static str, first: &[u8], second: &[u8], reply: &'static str) -> Row {
+    Row { name, files: [first.to_vec(), second.to_vec()], reply }
 }
 
-const J: &str = "*a1 J a J - -";
-const I: &str = "1 I 1 I - -";
 const OPEN_I: &str = "*a1 I 1 I - -";
 
 pub fn rows() -> Vec<Row> {

@@ -1,4 +1,4 @@
-//! Rows with hand-written expectations: each comes from document 01 or replies.md, none from a program.
+//! Rows with hand-written expectations: each comes from docs/REQUIREMENTS.md, none from a program.
 
 pub mod checking;
 pub mod comparing;

@@ -1,6 +1,6 @@
 //! The two programs: standard input and the one line printed.
 
-use super::checking::file;
+use super::checking::{file, I, J};
 use crate::terms::{index, repeated};
 
 pub struct Row {
@@ -153,20 +153,22 @@ fn long_inputs() -> Vec<Row> {
         named("a million line feeds", repeated("\n", 1_000_000), SHAPE),
         named("a million tabs", line("", repeated("\t", 1_000_000), "\n"), SHAPE),
         named("16,385 letters", line("6\t16384\t", index(16_384), "\n"), "refused\t3\t0"),
-        whole_area(),
+        whole_area("16,384 letters", index(16_383), 0, index(16_383)),
+        whole_area("16,384 letters, an index in a pair", line(".B", index(16_379), "IJ"), 1, index(16_379)),
+        whole_area("16,383 letters, 8,191 identities", line("", repeated(".I", 8_191), "J"), 8_191, index(0)),
     ]
 }
 
-/// A term as long as the largest area, printed whole.
-fn whole_area() -> Row {
-    let input = line("6\t16384\t", index(16_383), "\n");
-    Row { name: "16,384 letters".to_string(), input, printed: line("finished\t0\t", index(16_383), "") }
+/// A term in the largest area that finishes; the deepest stack is used where an index stands in a pair.
+fn whole_area(name: &str, term: Vec<u8>, steps: usize, result: Vec<u8>) -> Row {
+    let input = line("1000000\t16384\t", term, "\n");
+    Row { name: name.to_string(), input, printed: line(&format!("finished\t{steps}\t"), result, "") }
 }
 
 /// Every row of the checking program.
 pub fn check_rows() -> Vec<Row> {
-    let example = ["*a1 J a J - -", "1 I 1 I - -", "1 AIJ >aa A 2 1"];
-    let damaged = ["*a1 J a J - -", "1 I 1 I - -", "1 AIJ >aa A 1 2"];
+    let example = [J, I, "1 AIJ >aa A 2 1"];
+    let damaged = [J, I, "1 AIJ >aa A 1 2"];
     let good = || repeated("1\tI\t1\tI\t-\t-\n", 1_024);
     vec![
         named("example 11", file(&example), "accepted\t3"),

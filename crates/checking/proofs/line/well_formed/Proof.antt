@@ -6,7 +6,7 @@ use mathlib.Core.Logic.{⊎-elim, inl, inr}
 use Rattle.calculus.specs.Parse.{termOf}
 use Rattle.types.specs.Parse.{typeOf, contextOf}
 use Rattle.types.specs.Tests.{isSome}
-use Rattle.checking.proofs.Tests.{three-made, three-missed}
+use Rattle.fields.proofs.Tests.{three-made, three-missed}
 use borrow.Author.Needs.{needs}
 use Rattle.checking.proofs.line.well_formed.Statement.{statement}
 use Rattle.checking.proofs.line.well_formed.Tie as tie
@@ -31,19 +31,39 @@ is-type-requires c κs = search needs
 
 returns : tie.Need-returns
 returns c =
-    three-made _ _ _ (c .before .before .before .if1 .if2) (c .is-type .result)
+    let at-if1 = c .before .before .before in
+    let at-is-context = at-if1 .before in
+    let at-bytes-of = at-is-context .before in
+    three-made _ _ _ (at-if1 .if1 .if2) (c .is-type .result)
     (⊎-elim
-    (λ w. inl (sym (c .before .before .before .before .is-context .ensures ∙ ap (λ (s : List ℕ). isSome (contextOf s)) (c .before .before .before .before .before .bytes-of .ensures)) ∙ w .0 .taken, w .3 ∙ w .2 .ensures ∙ ap (λ (s : List ℕ). isSome (termOf s)) (w .1 .ensures)))
-    (λ w. inr (sym (c .before .before .before .before .is-context .ensures ∙ ap (λ (s : List ℕ). isSome (contextOf s)) (c .before .before .before .before .before .bytes-of .ensures)) ∙ w .0 .left, w .1 ∙ w .0 .left))
-    (c .before .before .before .if1 .came))
+    (λ w. inl (
+      sym (at-is-context .is-context .ensures ∙ ap (λ (s : List ℕ). isSome (contextOf s)) (at-bytes-of .bytes-of .ensures))
+          ∙ w .0 .taken,
+      w .3 ∙ w .2 .ensures ∙ ap (λ (s : List ℕ). isSome (termOf s)) (w .1 .ensures),
+    ))
+    (λ w. inr (
+      sym (at-is-context .is-context .ensures ∙ ap (λ (s : List ℕ). isSome (contextOf s)) (at-bytes-of .bytes-of .ensures))
+          ∙ w .0 .left,
+      w .1 ∙ w .0 .left,
+    ))
+    (at-if1 .if1 .came))
     (c .before .before .if2 .taken) (c .is-type .ensures ∙ ap (λ (s : List ℕ). isSome (typeOf s)) (c .before .bytes-of3 .ensures))
 
 returns-2 : tie.Need-returns-2
 returns-2 c =
+    let at-bytes-of = c .before .before .before in
     three-missed _ _ _ (c .before .if1 .if2)
     (⊎-elim
-    (λ w. inl (sym (c .before .before .is-context .ensures ∙ ap (λ (s : List ℕ). isSome (contextOf s)) (c .before .before .before .bytes-of .ensures)) ∙ w .0 .taken, w .3 ∙ w .2 .ensures ∙ ap (λ (s : List ℕ). isSome (termOf s)) (w .1 .ensures)))
-    (λ w. inr (sym (c .before .before .is-context .ensures ∙ ap (λ (s : List ℕ). isSome (contextOf s)) (c .before .before .before .bytes-of .ensures)) ∙ w .0 .left, w .1 ∙ w .0 .left))
+    (λ w. inl (
+      sym (c .before .before .is-context .ensures ∙ ap (λ (s : List ℕ). isSome (contextOf s)) (at-bytes-of .bytes-of .ensures))
+          ∙ w .0 .taken,
+      w .3 ∙ w .2 .ensures ∙ ap (λ (s : List ℕ). isSome (termOf s)) (w .1 .ensures),
+    ))
+    (λ w. inr (
+      sym (c .before .before .is-context .ensures ∙ ap (λ (s : List ℕ). isSome (contextOf s)) (at-bytes-of .bytes-of .ensures))
+          ∙ w .0 .left,
+      w .1 ∙ w .0 .left,
+    ))
     (c .before .if1 .came))
     (c .if2 .left)
 

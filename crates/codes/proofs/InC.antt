@@ -1,0 +1,143 @@
+-- A caller decodes what the operation answers. Carried by: refusals' numbers are below 100, and places, lines, rules, counts and sizes are
+-- within limits that fit their bits. Assumes nothing.
+use Prim.Native.Nat.{ℕ, _≤_, _<_}
+use native.Mathlib.Omega.{arith}
+use mathlib.Core.Path.{_≡_, refl, ap}
+use mathlib.Core.Bool.{Bool}
+use mathlib.Core.Logic.{⊎-elim}
+use mathlib.Core.List.{List}
+use lib.ListN.{length}
+use Rattle.calculus.specs.Term.{text, size}
+use Rattle.calculus.specs.Run.{run, outcome, count, reached}
+use Rattle.calculus.proofs.PrefixCode.{length-text}
+use Rattle.calculus.proofs.Ranges.{change-range}
+use Rattle.calculus.proofs.Runs.{count-fuel, reached-fits}
+use Rattle.reading.specs.Reply.{Reply}
+use Rattle.reading.specs.Reading.{readingOf}
+use Rattle.reading.proofs.Numbers.{reading-refused}
+use Rattle.reading.proofs.Whole.{whole-term}
+use Rattle.stepping.specs.Stepping as stepping
+use Rattle.stepping.proofs.Calls as step
+use Rattle.finishing.specs.Finishing as finishing
+use Rattle.finishing.proofs.Calls as finish
+use Rattle.finishing.proofs.Lending.{held-size}
+use Rattle.comparing.specs.Comparing as comparing
+use Rattle.comparing.proofs.Calls as compare
+use Rattle.derivation_files.specs.Checking.{checkingOf}
+use Rattle.derivation_files.proofs.Listed.{checking-refused}
+use Rattle.derivation_files.proofs.Files.{accepted-exactly}
+use Rattle.matching.specs.Matching.{matchingOf}
+use Rattle.matching.proofs.Calls.{match-refused}
+use Rattle.codes.specs.Encoding.{
+  placeLimit,
+  readNumber,
+  stepNumber,
+  finishNumber,
+  compareNumber,
+  checkNumber,
+  matchNumber,
+  codedStep,
+  codedFinish,
+  codedCompare,
+}
+use Rattle.codes.specs.Decoding.{
+  placePart,
+  valuePart,
+  steppedIn,
+  admittedIn,
+  comparedIn,
+  matchIn,
+  decodedRead,
+  decodedStep,
+  decodedFinish,
+  decodedCompare,
+  decodedCheck,
+  decodedMatch,
+  InC,
+}
+use Rattle.codes.proofs.Decoding.{
+  wide-refused,
+  refused-range,
+  refused-decoded,
+  whole-decoded,
+  normal-decoded,
+  no-room-decoded,
+  stepped-decoded,
+  run-decoded,
+  ran-decoded,
+  no-run-decoded,
+  compared-decoded,
+  accepted-decoded,
+  matched-decoded,
+}
+
+read-decoded : (bytes : List ℕ) → length bytes < placeLimit → (r : Reply ℕ) → readingOf bytes ≡ r → decodedRead (readNumber r) ≡ r
+unfolding readNumber
+read-decoded bytes short (Reply.refused n p) e = refused-decoded placePart (omega arith) (omega arith) short (reading-refused bytes n p e)
+read-decoded bytes short (Reply.answered n) e =
+    let (t, same, sized) = whole-term bytes n e in
+    whole-decoded n (omega (arith, ap length same, length-text t, sized))
+
+step-decoded :
+    {area work : List ℕ} {len : ℕ} {after : stepping.After} →
+    step.Call area len work after → decodedStep (codedStep after) ≡ after
+unfolding stepNumber
+step-decoded (step.Call.refused found) = cc (refused-decoded steppedIn (omega arith) (omega arith) (omega arith) found)
+step-decoded (step.Call.made t areas held (step.Answers.normal n)) =
+    cc (normal-decoded (size t) (omega (arith, areas .short, areas .within, held-size held)))
+step-decoded (step.Call.made t areas held (step.Answers.no-room s larger)) =
+    cc (no-room-decoded (size t) (omega (arith, areas .short, areas .within, held-size held)))
+step-decoded (step.Call.made t areas held (step.Answers.stepped {rule = rule} {u = u} s fits)) =
+    cc (stepped-decoded rule (size u) (omega (arith, change-range (s .change))) (omega (arith, areas .short, fits)))
+
+finish-decoded :
+    {area work : List ℕ} {len fuel : ℕ} {after : finishing.After} →
+    finish.Call area len work fuel after → decodedFinish (codedFinish after) ≡ after
+unfolding finishNumber
+finish-decoded (finish.Call.refused {number = n} {place = p} found) =
+    let (low, fits) = refused-range (omega arith) (omega arith) (omega arith) found in
+    cc (wide-refused admittedIn n p low fits, no-run-decoded n p low fits)
+finish-decoded {area = area} {fuel = fuel} (finish.Call.made t admits) =
+    let r = run fuel (length area) t in
+    let end = reached t r in
+    let held : size t ≤ length area = omega (arith, admits .areas .within, held-size (admits .held)) in
+    let small : count r < 16777216 = omega (arith, count-fuel fuel (length area) t, admits .fuelled) in
+    let fits : size end < 4294967296 = omega (arith, reached-fits fuel (length area) t held, admits .areas .short) in
+    cc (run-decoded (count r) (size end) small fits (outcome r), ran-decoded (count r) (size end) small fits (outcome r))
+
+compare-decoded :
+    {first second work : List ℕ} {len₁ len₂ fuel : ℕ} {after : comparing.After} →
+    compare.Call first len₁ second len₂ work fuel after → decodedCompare (codedCompare after) ≡ after
+unfolding compareNumber
+compare-decoded (compare.Call.first-refused found) = cc (refused-decoded comparedIn (omega arith) (omega arith) (omega arith) found)
+compare-decoded (compare.Call.second-refused found) = cc (refused-decoded comparedIn (omega arith) (omega arith) (omega arith) found)
+compare-decoded {first} {second} {fuel = fuel} (compare.Call.made t u admits₁ admits₂) =
+    let r = run fuel (length first) t in
+    let s = run fuel (length second) u in
+    cc (compared-decoded (comparing.verdict (outcome r) (outcome s) (text (reached t r)) (text (reached u s))))
+
+check-decoded : (file : List ℕ) (r : Reply ℕ) → checkingOf file ≡ r → decodedCheck (checkNumber r) ≡ r
+unfolding checkNumber
+check-decoded file (Reply.refused n p) e =
+    refused-decoded valuePart (omega arith) (omega arith) (omega arith) (checking-refused file n p e)
+check-decoded file (Reply.answered n) e = accepted-decoded n (omega (arith, accepted-exactly file n .0 e .few-lines))
+
+match-decoded : (first second : List ℕ) (r : Reply Bool) → matchingOf first second ≡ r → decodedMatch (matchNumber r) ≡ r
+unfolding matchNumber
+match-decoded first second (Reply.refused n p) e =
+    ⊎-elim (λ f. of-file first f) (λ f. of-file second f) (match-refused first second n p e)
+  where
+    of-file : (file : List ℕ) → checkingOf file ≡ Reply.refused n p → decodedMatch (matchNumber (Reply.refused n p)) ≡ Reply.refused n p
+    of-file file f = refused-decoded matchIn (omega arith) (omega arith) (omega arith) (checking-refused file n p f)
+match-decoded first second (Reply.answered b) e = matched-decoded b
+
+pub in-c : InC
+in-c =
+    record {
+      read = λ bytes short. read-decoded bytes short (readingOf bytes) refl;
+      step = λ area len work. step-decoded (step.call area len work);
+      finish = λ area len work fuel. finish-decoded (finish.call area len work fuel);
+      compare = λ first len₁ second len₂ work fuel. compare-decoded (compare.call first len₁ second len₂ work fuel);
+      check = λ file. check-decoded file (checkingOf file) refl;
+      match-claims = λ first second. match-decoded first second (matchingOf first second) refl;
+    }

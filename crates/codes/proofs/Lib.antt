@@ -1,0 +1,4 @@
+-- That a C caller decodes what the operations answer.
+pub mod Refusals
+pub mod Decoding
+pub mod InC

@@ -1,0 +1,107 @@
+-- What a C caller takes from the number of a reply by the header's macros, and that it is what the operation answers (REQUIREMENTS,
+-- C interface). proofs/InC.antt proves it.
+use Prim.Native.Nat.{ℕ, _/_, _%_, _<_}
+use mathlib.Core.Path.{_≡_}
+use mathlib.Core.Bool.{Bool, cond}
+use mathlib.Core.List.{List}
+use lib.Dec.{ltb, eqb}
+use lib.ListN.{length}
+use Rattle.calculus.specs.Run.{Outcome}
+use Rattle.reading.specs.Reply.{Reply}
+use Rattle.reading.specs.Reading.{readingOf}
+use Rattle.stepping.specs.Stepping as stepping
+use Rattle.finishing.specs.Finishing as finishing
+use Rattle.comparing.specs.Comparing as comparing
+use Rattle.derivation_files.specs.Checking.{checkingOf}
+use Rattle.matching.specs.Matching.{matchingOf}
+use Rattle.codes.specs.Encoding.{placeLimit, readNumber, checkNumber, matchNumber, codedStep, codedFinish, codedCompare}
+
+-- ---- the macros of include/controller.h
+
+-- CONTROLLER_CODE
+abbrev pub codePart : ℕ → ℕ
+codePart reply = reply % 256
+
+-- CONTROLLER_PLACE
+abbrev pub placePart : ℕ → ℕ
+placePart reply = reply / 256
+
+-- CONTROLLER_VALUE
+abbrev pub valuePart : ℕ → ℕ
+valuePart reply = reply / 256 % 16777216
+
+-- CONTROLLER_SIZE
+abbrev pub sizePart : ℕ → ℕ
+sizePart reply = reply / 4294967296
+
+-- ---- a reply, taken apart by them
+
+-- a code below 100 is a refusal's number, with its place or line; any other is an answer
+unfoldable pub decoded : {X : Type 0} → (answer : ℕ → X) (reply : ℕ) → Reply X
+decoded answer reply =
+    cond (ltb (codePart reply) 100) (Reply.refused (codePart reply) (placePart reply)) (Reply.answered (answer reply))
+
+-- which answer of stepping
+unfoldable pub steppedIn : ℕ → stepping.Stepped
+steppedIn reply =
+    cond (eqb (codePart reply) 100) (stepping.Stepped.normal (sizePart reply))
+    (cond (eqb (codePart reply) 101) (stepping.Stepped.no-room (sizePart reply)) (stepping.Stepped.stepped (valuePart reply) (sizePart reply)))
+
+-- finishing's answer says no more than that the call is not refused: the rest is in the record
+abbrev pub admittedIn : ℕ → Unit {0}
+admittedIn reply = tt
+
+-- which outcome of finishing
+unfoldable pub outcomeIn : ℕ → Outcome
+outcomeIn reply = cond (eqb (codePart reply) 110) Outcome.finished (cond (eqb (codePart reply) 111) Outcome.spent Outcome.no-room)
+
+-- the record of the run; beside a refusal there is none
+unfoldable pub ranIn : ℕ → finishing.Ran
+ranIn reply = cond (ltb (codePart reply) 100) finishing.noRun (finishing.Ran.ran (outcomeIn reply) (valuePart reply) (sizePart reply))
+
+-- which answer of comparing
+unfoldable pub comparedIn : ℕ → comparing.Compared
+comparedIn reply =
+    cond (eqb (codePart reply) 113) comparing.Compared.same-results
+    (cond (eqb (codePart reply) 114) comparing.Compared.different-results comparing.Compared.undecided)
+
+-- whether the claims match
+unfoldable pub matchIn : ℕ → Bool
+matchIn reply = eqb (codePart reply) 180
+
+-- ---- a call, as its caller sees it: the number taken apart, and the areas lent as they are found after it
+
+abbrev pub decodedRead : ℕ → Reply ℕ
+decodedRead reply = decoded placePart reply
+
+abbrev pub decodedStep : ℕ × List ℕ × List ℕ → stepping.After
+decodedStep left = stepping.After.after (decoded steppedIn (left .0)) (left .1) (left .2)
+
+abbrev pub decodedFinish : ℕ × List ℕ × List ℕ → finishing.After
+decodedFinish left = finishing.After.after (decoded admittedIn (left .0)) (ranIn (left .0)) (left .1) (left .2)
+
+abbrev pub decodedCompare : ℕ × List ℕ × List ℕ × List ℕ → comparing.After
+decodedCompare left = comparing.After.after (decoded comparedIn (left .0)) (left .1) (left .2) (left .3)
+
+abbrev pub decodedCheck : ℕ → Reply ℕ
+decodedCheck reply = decoded valuePart reply
+
+abbrev pub decodedMatch : ℕ → Reply Bool
+decodedMatch reply = decoded matchIn reply
+
+-- What the caller sees is what the operation answers and leaves, for every call of the six functions. (What stands in the brackets is what
+-- the function leaves, by its contract.) Only reading has a condition: there are fewer than 2 to the 56 bytes.
+pub record InC : Type 0 where
+  pub read : (bytes : List ℕ) → length bytes < placeLimit → decodedRead (readNumber (readingOf bytes)) ≡ readingOf bytes
+  pub step :
+      (area : List ℕ) (len : ℕ) (work : List ℕ) →
+      decodedStep (codedStep (stepping.steppingOf area len work)) ≡ stepping.steppingOf area len work
+  pub finish :
+      (area : List ℕ) (len : ℕ) (work : List ℕ) (fuel : ℕ) →
+      decodedFinish (codedFinish (finishing.finishingOf area len work fuel)) ≡ finishing.finishingOf area len work fuel
+  pub compare :
+      (first : List ℕ) (len₁ : ℕ) (second : List ℕ) (len₂ : ℕ) (work : List ℕ) (fuel : ℕ) →
+      decodedCompare (codedCompare (comparing.comparingOf first len₁ second len₂ work fuel))
+      ≡ comparing.comparingOf first len₁ second len₂ work fuel
+  pub check : (file : List ℕ) → decodedCheck (checkNumber (checkingOf file)) ≡ checkingOf file
+  pub match-claims : (first second : List ℕ) → decodedMatch (matchNumber (matchingOf first second)) ≡ matchingOf first second

@@ -1,0 +1,6 @@
+pub mod Line
+pub mod Instance
+pub mod Checking
+pub mod Accepted
+pub mod Checks
+pub mod LaidOut

@@ -1,0 +1,1 @@
+// What derivation files are and what checking answers, on trees. It has no code.

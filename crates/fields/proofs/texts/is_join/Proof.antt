@@ -1,0 +1,25 @@
+-- `texts::is_join` meets its contract: it hands the bytes of the three texts to `joins`. Assumes nothing.
+
+use borrow.Author.Needs.{needs}
+use Rattle.fields.proofs.texts.is_join.Statement.{statement}
+use Rattle.fields.proofs.texts.is_join.Tie as tie
+
+bytes-of-requires : tie.Need-bytes-of-requires
+bytes-of-requires c κs = search needs
+
+bytes-of-requires-2 : tie.Need-bytes-of-requires-2
+bytes-of-requires-2 c κs = search needs
+
+bytes-of-requires-3 : tie.Need-bytes-of-requires-3
+bytes-of-requires-3 c κs = search needs
+
+joins-requires : tie.Need-joins-requires
+joins-requires c κs = search needs
+
+returns : tie.Need-returns
+returns c = cc
+
+pub is-join-spec : {M : Type 1} → statement M
+is-join-spec =
+    tie.close
+    (tie.spec bytes-of-requires bytes-of-requires-2 bytes-of-requires-3 joins-requires returns)

@@ -1,0 +1,4 @@
+pub mod Skip
+pub mod Heads
+pub mod Pieces
+pub mod Laid

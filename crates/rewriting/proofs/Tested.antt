@@ -1,0 +1,81 @@
+-- What the tests for letters say of the right side of a rule: a byte that is a letter's picks that letter's case, and one that is none of
+-- those tested picks no rule. Assumes nothing.
+use Prim.Native.Nat.{ℕ, _+_, _≤_}
+use native.Mathlib.Omega.{arith}
+use mathlib.Core.Path.{_≡_, refl, sym, _∙_, ap}
+use mathlib.Core.List.{List}
+use mathlib.Core.Option.{Option, none, some}
+use lib.ListN.{length, getD, List·getD-eq-default}
+use Rattle.calculus.specs.Letter.{Letter, byte, letterOf}
+use Rattle.calculus.proofs.PrefixCode.{letterOf-byte, byte-letterOf}
+use Rattle.parts.specs.Skip.{endAt}
+use Rattle.rewriting.specs.declared.Rewrite.{Rewrite}
+use Rattle.rewriting.specs.Rewriting.{between, entered, unchanged, onPair, pairOf, onFunction, rewriteOf}
+
+-- the case of a letter is that of its byte
+pub by-letter : (f : Option Letter → Rewrite) (b : ℕ) (l : Letter) → b ≡ byte l → f (some l) ≡ f (letterOf b)
+by-letter f b l e = ap f (sym (ap letterOf e ∙ letterOf-byte l))
+
+-- a byte that is none of the letters tested is no letter or a full stop
+pub record Other (b : ℕ) : Type 0 where
+  pub no-J : b ≡ byte Letter.J → ⊥
+  pub no-R : b ≡ byte Letter.R → ⊥
+  pub no-H : b ≡ byte Letter.H → ⊥
+  pub no-A : b ≡ byte Letter.A → ⊥
+  pub no-I : b ≡ byte Letter.I → ⊥
+  pub no-B : b ≡ byte Letter.B → ⊥
+
+by-others : (f : Option Letter → Rewrite) (w : Rewrite) (b : ℕ) → Other b → w ≡ f none → w ≡ f (some Letter.stop) → w ≡ f (letterOf b)
+by-others f w b other o q = go (letterOf b) refl
+  where
+    go : (l : Option Letter) → letterOf b ≡ l → w ≡ f l
+    go none e = o
+    go (some Letter.J) e = absurd (other .no-J (sym (byte-letterOf b Letter.J e)))
+    go (some Letter.R) e = absurd (other .no-R (sym (byte-letterOf b Letter.R e)))
+    go (some Letter.H) e = absurd (other .no-H (sym (byte-letterOf b Letter.H e)))
+    go (some Letter.A) e = absurd (other .no-A (sym (byte-letterOf b Letter.A e)))
+    go (some Letter.I) e = absurd (other .no-I (sym (byte-letterOf b Letter.I e)))
+    go (some Letter.B) e = absurd (other .no-B (sym (byte-letterOf b Letter.B e)))
+    go (some Letter.stop) e = q
+
+module _ (s : List ℕ) (p mid end : ℕ) (b : ℕ) (q : b ≡ getD s end 0) where
+  same-pair : onPair (letterOf b) s p mid end ≡ onPair (letterOf (getD s end 0)) s p mid end
+  same-pair = ap (λ (c : ℕ). onPair (letterOf c) s p mid end) q
+
+  -- the first letter of the argument picks what a pair's rule makes of the text
+  pub pair-letter : (l : Letter) → b ≡ byte l → onPair (some l) s p mid end ≡ onPair (letterOf (getD s end 0)) s p mid end
+  pair-letter l n = by-letter (λ (o : Option Letter). onPair o s p mid end) b l n ∙ same-pair
+
+  pub pair-others : Other b → unchanged (length s) ≡ onPair (letterOf (getD s end 0)) s p mid end
+  pair-others other = by-others (λ (o : Option Letter). onPair o s p mid end) (unchanged (length s)) b other refl refl ∙ same-pair
+
+module _ (s : List ℕ) (p : ℕ) (b : ℕ) (q : b ≡ getD s (p + 1) 0) where
+  -- the function's letter picks what the rule makes of the text
+  pub rewrite-letter : (l : Letter) → b ≡ byte l → onFunction (some l) s p ≡ rewriteOf s p
+  unfolding rewriteOf
+  rewrite-letter l e = by-letter (λ (o : Option Letter). onFunction o s p) (getD s (p + 1) 0) l (sym q ∙ e)
+
+  pub rewrite-others : Other b → unchanged (length s) ≡ rewriteOf s p
+  unfolding rewriteOf
+  rewrite-others other =
+      by-others (λ (o : Option Letter). onFunction o s p) (unchanged (length s)) b other refl refl
+      ∙ ap (λ (n : ℕ). onFunction (letterOf n) s p) q
+
+-- past the end stands no letter
+pub rewrite-past : (s : List ℕ) (p : ℕ) → length s ≤ p → unchanged (length s) ≡ rewriteOf s p
+unfolding rewriteOf letterOf
+rewrite-past s p h = ap (λ (n : ℕ). onFunction (letterOf n) s p) (sym (List·getD-eq-default s 0 {n = p + 1} (omega arith)))
+
+-- the ends of the parts of a function, found one after the other
+pub pair-of :
+    (s : List ℕ) (p mid end : ℕ) → mid ≡ endAt s (p + 2) → end ≡ endAt s mid → onPair (letterOf (getD s end 0)) s p mid end ≡ pairOf s p
+pair-of s p mid end m e =
+    ap (λ (k : ℕ). onPair (letterOf (getD s k 0)) s p mid k) e
+    ∙ ap (λ (k : ℕ). onPair (letterOf (getD s (endAt s k) 0)) s p k (endAt s k)) m
+
+pub closure-of :
+    (s : List ℕ) (p end third : ℕ) → end ≡ endAt s (p + 1) → third ≡ endAt s end →
+    entered (p + 1) (between end third) (between (p + 2) end) ≡ onFunction (some Letter.A) s p
+closure-of s p end third e t =
+    ap (λ (k : ℕ). entered (p + 1) (between end k) (between (p + 2) end)) t
+    ∙ ap (λ (k : ℕ). entered (p + 1) (between k (endAt s k)) (between (p + 2) k)) e

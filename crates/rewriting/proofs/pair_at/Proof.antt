@@ -1,0 +1,158 @@
+-- `rewriting::pair_at` meets its contract: each test picks the case of its letter. Assumes nothing.
+use mathlib.Core.Path.{_∙_, ap}
+use Prim.Native.Nat.{ℕ, _+_}
+use Rattle.calculus.specs.Letter.{Letter, byte}
+use Rattle.rewriting.specs.Rewriting.{between, nothing, spread}
+use Rattle.rewriting.proofs.Tested.{Other, pair-letter, pair-others}
+use borrow.Author.Needs.{needs}
+use Rattle.rewriting.proofs.pair_at.Statement.{statement}
+use Rattle.rewriting.proofs.pair_at.Tie as tie
+
+byte-at-requires : tie.Need-byte-at-requires
+byte-at-requires c κs = search needs
+
+add-inner : tie.Need-add-inner
+add-inner c = search needs
+
+add-t11 : tie.Need-add-t11
+add-t11 c = search needs
+
+picked-requires : tie.Need-picked-requires
+picked-requires c κs = search needs
+
+returns : tie.Need-returns
+returns c =
+    let at-byte-at = c .before .before in
+    let start = at-byte-at .before .before in
+    let a = start .args in
+    c .picked .ensures
+    ∙ pair-letter (a .s .now) (a .p) (a .mid) (a .end) (at-byte-at .byte-at .result) (at-byte-at .byte-at .ensures) Letter.J
+    (c .before .if1 .taken)
+
+add-picked : tie.Need-add-picked
+add-picked c = search needs
+
+picked-requires-2 : tie.Need-picked-requires-2
+picked-requires-2 c κs = search needs
+
+returns-2 : tie.Need-returns-2
+returns-2 c =
+    let at-byte-at = c .before .before .before in
+    let start = at-byte-at .before .before in
+    let a = start .args in
+    c .picked2 .ensures
+    ∙ pair-letter (a .s .now) (a .p) (a .mid) (a .end) (at-byte-at .byte-at .result) (at-byte-at .byte-at .ensures) Letter.R
+    (c .before .if2 .taken)
+
+picked-requires-3 : tie.Need-picked-requires-3
+picked-requires-3 c κs = search needs
+
+returns-3 : tie.Need-returns-3
+returns-3 c =
+    let at-byte-at = c .before .before .before .before in
+    let start = at-byte-at .before .before in
+    let a = start .args in
+    c .picked3 .ensures
+    ∙ pair-letter (a .s .now) (a .p) (a .mid) (a .end) (at-byte-at .byte-at .result) (at-byte-at .byte-at .ensures) Letter.I
+    (c .before .if3 .taken)
+
+part-end-requires : tie.Need-part-end-requires
+part-end-requires c κs = search needs
+
+add-spread : tie.Need-add-spread
+add-spread c = search needs
+
+spread-requires : tie.Need-spread-requires
+spread-requires c κs = search needs
+
+returns-4 : tie.Need-returns-4
+returns-4 c =
+    let at-part-end = c .before .before in
+    let at-byte-at = at-part-end .before .before .before .before in
+    let start = at-byte-at .before .before in
+    let a = start .args in
+    let pair = between (a .p) (a .end) in
+    c .spread .ensures
+    ∙ ap (λ (k : ℕ). spread 8 (a .p + 1) 0 pair (between (a .end + 1) k) pair) (at-part-end .part-end .ensures)
+    ∙ pair-letter (a .s .now) (a .p) (a .mid) (a .end) (at-byte-at .byte-at .result) (at-byte-at .byte-at .ensures) Letter.H
+    (c .before .if4 .taken)
+
+spread-requires-2 : tie.Need-spread-requires-2
+spread-requires-2 c κs = search needs
+
+returns-5 : tie.Need-returns-5
+returns-5 c =
+    let at-part-end = c .before .before .before in
+    let at-byte-at = at-part-end .before .before .before .before in
+    let start = at-byte-at .before .before in
+    let a = start .args in
+    let pair = between (a .p) (a .end) in
+    c .spread2 .ensures
+    ∙ ap (λ (k : ℕ). spread 9 (a .p) (byte Letter.A) pair (between (a .end + 1) k) nothing) (at-part-end .part-end .ensures)
+    ∙ pair-letter (a .s .now) (a .p) (a .mid) (a .end) (at-byte-at .byte-at .result) (at-byte-at .byte-at .ensures) Letter.A
+    (c .before .if5 .taken)
+
+spread-requires-3 : tie.Need-spread-requires-3
+spread-requires-3 c κs = search needs
+
+returns-6 : tie.Need-returns-6
+returns-6 c =
+    let at-part-end = c .before .before .before .before in
+    let at-byte-at = at-part-end .before .before .before .before in
+    let start = at-byte-at .before .before in
+    let a = start .args in
+    let pair = between (a .p) (a .end) in
+    c .spread3 .ensures
+    ∙ ap (λ (k : ℕ). spread 11 (a .p) (byte Letter.B) pair (between (a .end + 1) k) pair) (at-part-end .part-end .ensures)
+    ∙ pair-letter (a .s .now) (a .p) (a .mid) (a .end) (at-byte-at .byte-at .result) (at-byte-at .byte-at .ensures) Letter.B
+    (c .before .if6 .taken)
+
+unchanged-requires : tie.Need-unchanged-requires
+unchanged-requires c κs = search needs
+
+returns-7 : tie.Need-returns-7
+returns-7 c =
+    let at-if5 = c .before .before in
+    let at-if4 = at-if5 .before in
+    let at-if3 = at-if4 .before .before in
+    let at-if2 = at-if3 .before in
+    let at-if1 = at-if2 .before in
+    let at-byte-at = at-if1 .before in
+    let start = at-byte-at .before .before in
+    let a = start .args in
+    let other : Other (at-byte-at .byte-at .result) =
+    record {
+      no-J = at-if1 .if1 .left;
+      no-R = at-if2 .if2 .left;
+      no-H = at-if4 .if4 .left;
+      no-A = at-if5 .if5 .left;
+      no-I = at-if3 .if3 .left;
+      no-B = c .before .if6 .left;
+    } in
+    c .unchanged .ensures ∙ pair-others (a .s .now) (a .p) (a .mid) (a .end) (at-byte-at .byte-at .result) (at-byte-at .byte-at .ensures)
+    other
+
+pub pair-at-spec : {M : Type 1} → statement M
+pair-at-spec =
+    tie.close
+    (tie.spec
+    byte-at-requires
+    add-inner
+    add-t11
+    picked-requires
+    returns
+    add-picked
+    picked-requires-2
+    returns-2
+    picked-requires-3
+    returns-3
+    part-end-requires
+    add-spread
+    spread-requires
+    returns-4
+    spread-requires-2
+    returns-5
+    spread-requires-3
+    returns-6
+    unchanged-requires
+    returns-7)

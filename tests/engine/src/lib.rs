@@ -1,0 +1,72 @@
+//! The engine's six functions as `include/controller.h` declares them, on slices.
+
+use harness::subject::Controller;
+use second::comparing::Lent;
+
+extern "C" {
+    fn controller_read(bytes: *const u8, size: usize) -> u64;
+    fn controller_step(area: *mut u8, area_size: usize, term_size: usize, work: *mut u8, work_size: usize) -> u64;
+    fn controller_finish(
+        area: *mut u8,
+        area_size: usize,
+        term_size: usize,
+        work: *mut u8,
+        work_size: usize,
+        fuel: u64,
+    ) -> u64;
+    fn controller_compare(
+        first: *mut u8,
+        first_size: usize,
+        first_term: usize,
+        second: *mut u8,
+        second_size: usize,
+        second_term: usize,
+        work: *mut u8,
+        work_size: usize,
+        fuel: u64,
+    ) -> u64;
+    fn controller_check(file: *const u8, file_size: usize) -> u64;
+    fn controller_match(first: *const u8, first_size: usize, second: *const u8, second_size: usize) -> u64;
+}
+
+/// The engine. A Rust slice lends its bytes at their true length and apart from others, as a call wants.
+#[derive(Clone, Copy)]
+pub struct Linked;
+
+impl Controller for Linked {
+    fn read(&self, slice: &[u8]) -> u64 {
+        unsafe { controller_read(slice.as_ptr(), slice.len()) }
+    }
+
+    fn step(&self, area: &mut [u8], term: usize, work: &mut [u8]) -> u64 {
+        unsafe { controller_step(area.as_mut_ptr(), area.len(), term, work.as_mut_ptr(), work.len()) }
+    }
+
+    fn finish(&self, area: &mut [u8], term: usize, work: &mut [u8], fuel: u64) -> u64 {
+        unsafe { controller_finish(area.as_mut_ptr(), area.len(), term, work.as_mut_ptr(), work.len(), fuel) }
+    }
+
+    fn compare(&self, first: Lent, second: Lent, work: &mut [u8], fuel: u64) -> u64 {
+        unsafe {
+            controller_compare(
+                first.area.as_mut_ptr(),
+                first.area.len(),
+                first.length,
+                second.area.as_mut_ptr(),
+                second.area.len(),
+                second.length,
+                work.as_mut_ptr(),
+                work.len(),
+                fuel,
+            )
+        }
+    }
+
+    fn check(&self, file: &[u8]) -> u64 {
+        unsafe { controller_check(file.as_ptr(), file.len()) }
+    }
+
+    fn match_claims(&self, first: &[u8], second: &[u8]) -> u64 {
+        unsafe { controller_match(first.as_ptr(), first.len(), second.as_ptr(), second.len()) }
+    }
+}

@@ -1,0 +1,98 @@
+//! Several threads that call at once, each on areas of its own: every reply and every lent byte is as alone.
+
+use crate::deep::ADVISED_STACK;
+use crate::derivations::{file_of, some, Layout};
+use crate::lent::*;
+use crate::random::Random;
+use crate::step_tests::call_on;
+use crate::subject::{Controller, Second};
+use crate::suite::{Outcome, Suite};
+use crate::terms::random_of_size;
+use second::plain::Plain;
+use std::sync::Barrier;
+
+const THREADS: u64 = 4;
+const ROUNDS: usize = 20;
+
+/// A call with what the second implementation replies and leaves, worked out before any thread starts.
+enum Asked {
+    Run(Call, Option<u64>, Expected),
+    Compare(Pair, Compared),
+    Read(Vec<u8>, u64),
+    Check(Vec<u8>, u64),
+    Match([Vec<u8>; 2], u64),
+}
+
+impl Asked {
+    fn ask(&self, subject: &dyn Controller) -> Outcome {
+        match self {
+            Asked::Run(call, fuel, expected) => demand(subject, call, *fuel, expected),
+            Asked::Compare(pair, expected) => demand_pair(subject, pair, expected),
+            Asked::Read(slice, reply) => demand_read(subject, slice, *reply),
+            Asked::Check(file, reply) => demand_check(subject, file, *reply),
+            Asked::Match(files, reply) => demand_match(subject, [&files[0], &files[1]], *reply),
+        }
+    }
+}
+
+fn run(random: &mut Random, text: &[u8], fuel: Option<u64>) -> Asked {
+    let room = random.below(200);
+    let call = call_on(random, text, text.len() + room);
+    let expected = predict_plain(&call, fuel);
+    Asked::Run(call, fuel, expected)
+}
+
+fn compare(random: &mut Random, text: &[u8]) -> Asked {
+    let area = [text, &random.rubbish(100)].concat();
+    let work = random.rubbish(area.len());
+    let (first, first_term) = (area.clone(), text.len());
+    let pair = Pair { first, first_term, second: area, second_term: first_term, work, fuel: 50 };
+    let expected = predict_pair(&pair);
+    Asked::Compare(pair, expected)
+}
+
+/// One thread's calls: all six functions in turn.
+fn calls(seed: u64) -> Vec<Asked> {
+    let mut random = Random::new(seed);
+    let second = Second::<Plain>::new();
+    let mut asked = vec![];
+    for derivation in some(&mut random, 25) {
+        let size = random.between(5, 400);
+        let text = random_of_size(&mut random, size).text();
+        let file = file_of(&derivation, Layout { shared: true, second_first: false });
+        asked.push(run(&mut random, &text, None));
+        asked.push(run(&mut random, &text, Some(300)));
+        asked.push(compare(&mut random, &text));
+        asked.push(Asked::Read(text.clone(), second.read(&text)));
+        asked.push(Asked::Check(file.clone(), second.check(&file)));
+        let reply = second.match_claims(&file, &file);
+        asked.push(Asked::Match([file.clone(), file], reply));
+    }
+    asked
+}
+
+/// Each thread asks its calls again and again, and all of them start together.
+fn together(subject: impl Controller + Sync) -> Outcome {
+    let all: Vec<Vec<Asked>> = (0..THREADS).map(|thread| calls(91 + thread)).collect();
+    let start = Barrier::new(all.len());
+    let (subject, start) = (&subject, &start);
+    let ask_all = |asked: &Vec<Asked>| {
+        start.wait();
+        (0..ROUNDS).try_for_each(|_| asked.iter().try_for_each(|asked| asked.ask(subject)))
+    };
+    std::thread::scope(|scope| {
+        let spawn = |asked| {
+            let builder = std::thread::Builder::new().stack_size(ADVISED_STACK);
+            builder.spawn_scoped(scope, move || ask_all(asked)).expect("a thread can be started")
+        };
+        let threads: Vec<_> = all.iter().map(spawn).collect();
+        let joined = threads.into_iter().map(|thread| thread.join().unwrap_or(Err("a call panicked".to_string())));
+        joined.collect::<Vec<Outcome>>().into_iter().collect()
+    })
+}
+
+pub fn all(suite: &mut Suite, label: &str, subject: impl Controller + Sync) {
+    suite.test(&format!("{label} all functions: {THREADS} threads at once, each on its own areas"), || {
+        together(subject)
+    });
+}

@@ -1,0 +1,92 @@
+/* What arrives at the engine when a call is written with the header: here stand functions in the engine's
+ * place that print their arguments. Each argument is used once and keeps its place, and a null pointer of
+ * length 0 becomes a pointer to some byte. What is printed must be arguments.txt. */
+#include "controller.h"
+
+#include <inttypes.h>
+#include <stdio.h>
+
+static uint8_t a[3], b[3], c[3];
+
+static const char *name_of(const uint8_t *bytes)
+{
+    if (bytes == NULL)
+        return "null";
+    return bytes == a ? "a" : bytes == b ? "b" : bytes == c ? "c" : "another";
+}
+
+#ifdef __cplusplus
+extern "C" {
+#endif
+
+uint64_t(controller_read)(const uint8_t *bytes, size_t size)
+{
+    printf("read %s %zu\n", name_of(bytes), size);
+    return 1;
+}
+
+uint64_t(controller_step)(uint8_t *area, size_t area_size, size_t term_size, uint8_t *work, size_t work_size)
+{
+    printf("step %s %zu %zu %s %zu\n", name_of(area), area_size, term_size, name_of(work), work_size);
+    return 2;
+}
+
+uint64_t(controller_finish)(uint8_t *area, size_t area_size, size_t term_size, uint8_t *work, size_t work_size,
+                            uint64_t fuel)
+{
+    printf("finish %s %zu %zu %s %zu %" PRIu64 "\n", name_of(area), area_size, term_size, name_of(work), work_size,
+           fuel);
+    return 3;
+}
+
+uint64_t(controller_compare)(uint8_t *first, size_t first_size, size_t first_term, uint8_t *second,
+                             size_t second_size, size_t second_term, uint8_t *work, size_t work_size,
+                             uint64_t fuel)
+{
+    printf("compare %s %zu %zu %s %zu %zu %s %zu %" PRIu64 "\n", name_of(first), first_size, first_term,
+           name_of(second), second_size, second_term, name_of(work), work_size, fuel);
+    return 4;
+}
+
+uint64_t(controller_check)(const uint8_t *file, size_t file_size)
+{
+    printf("check %s %zu\n", name_of(file), file_size);
+    return 5;
+}
+
+uint64_t(controller_match)(const uint8_t *first, size_t first_size, const uint8_t *second, size_t second_size)
+{
+    printf("match %s %zu %s %zu\n", name_of(first), first_size, name_of(second), second_size);
+    return 6;
+}
+
+#ifdef __cplusplus
+}
+#endif
+
+static void returned(uint64_t reply)
+{
+    printf("returned %" PRIu64 "\n", reply);
+}
+
+int main(void)
+{
+    size_t n = 10;
+    returned(controller_read(a, 1));
+    returned(controller_read(NULL, 0));
+    returned(controller_read(NULL, 7));
+    returned(controller_step(a, 1, 2, b, 3));
+    returned(controller_step(NULL, 0, 2, NULL, 0));
+    returned(controller_finish(a, 1, 2, b, 3, 4));
+    returned(controller_finish(NULL, 0, 2, NULL, 0, 4));
+    returned(controller_compare(a, 1, 2, b, 3, 4, c, 5, 6));
+    returned(controller_compare(NULL, 0, 2, NULL, 0, 4, NULL, 0, 6));
+    returned(controller_check(a, 1));
+    returned(controller_check(NULL, 0));
+    returned(controller_match(a, 1, b, 2));
+    returned(controller_match(NULL, 0, NULL, 0));
+    returned(controller_read(a, n++));
+    returned(controller_step(a, n++, 0, b, 0));
+    printf("n is %zu\n", n);
+    return 0;
+}
