@@ -1,6 +1,7 @@
 -- The term that a text is of, as a function on any bytes: what `text` undoes. `proofs/PrefixCode.antt` shows that it does.
 -- The bytes are taken from the last to the first. A letter takes the terms that stand to its right; a byte that is no letter, or
 -- a letter that lacks a term, stays loose.
+-- REQUIREMENTS, Terms.
 use Prim.Native.Nat.{ℕ}
 use mathlib.Core.List.{List, [], _∷_}
 use mathlib.Core.Option.{Option, none, some}

@@ -1,5 +1,6 @@
 -- What one line comes to, by its texts: the refusal with its number and the line's own number, or that number where the line is good.
 -- `proofs/TextChecking.antt` shows that this is what is found of the line by `derivation_files/specs/Checking.antt`.
+-- REQUIREMENTS, Checking.
 use Prim.Native.Nat.{ℕ, _+_}
 use mathlib.Core.Bool.{Bool, true, false, _&&_}
 use mathlib.Core.List.{List}

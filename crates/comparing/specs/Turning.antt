@@ -1,4 +1,5 @@
 -- What comparing says of turning: same exactly when, both runs finished, the two first terms can be turned into each other.
+-- REQUIREMENTS, Comparing; REQUIREMENTS, Demands.
 use Prim.Native.Nat.{ℕ}
 use mathlib.Core.Path.{_≡_}
 use mathlib.Core.Logic.{_↔_}

@@ -1,5 +1,6 @@
 -- Decimal numbers fed a byte at a time: the state behind some bytes, and the number that they are, with numbers above a cap kept as the
 -- cap. `proofs/Parsing.antt` shows that this is `decimalOf` of the bytes.
+-- REQUIREMENTS, Programs; REQUIREMENTS, Derivation files.
 use Prim.Native.Nat.{ℕ, _+_, _*_, _-_, min}
 use mathlib.Core.Bool.{Bool, true, false}
 use mathlib.Core.List.{List, [], _∷_}

@@ -1,6 +1,7 @@
 -- Whether a judgement is an instance of a rule, given its premises, as a test on trees: what the rule asks of contexts and types, and
 -- that the term is the one that the rule builds of the premises' terms. `proofs/Instance.antt` shows that the test holds exactly when
 -- the judgement follows.
+-- REQUIREMENTS, Typing.
 use mathlib.Core.Bool.{Bool, false, _&&_}
 use Rattle.slices.specs.Same.{same}
 use Rattle.calculus.specs.Term.{Term, text}

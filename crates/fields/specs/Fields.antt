@@ -1,6 +1,7 @@
 -- The fields of the line that begins at an index of a file, by where they stand: each goes up to the next tab or line feed. The
 -- definition is total: where a line has fewer than six fields, the others are empty. `proofs/Cutting.antt` shows that they are the
 -- fields of `slices/specs/Split.antt`.
+-- REQUIREMENTS, Derivation files.
 use Prim.Native.Nat.{ℕ, suc, _+_}
 use mathlib.Core.Bool.{Bool, _&&_, _||_, not, cond}
 use mathlib.Core.List.{List, [], _∷_}

@@ -1,4 +1,5 @@
 -- Texts in a file, by where they stand.
+-- REQUIREMENTS, Derivation files.
 use Prim.Native.Nat.{ℕ}
 use mathlib.Core.List.{List}
 use Rattle.slices.specs.Part.{part}

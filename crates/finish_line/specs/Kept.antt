@@ -1,5 +1,6 @@
 -- The lent buffer once a term's bytes are kept in it: as many of the term's first bytes as fit, and behind them what stood there.
 -- Assumes nothing.
+-- REQUIREMENTS, Programs.
 use Prim.Native.Nat.{ℕ}
 use mathlib.Core.List.{List, _++_}
 use lib.ListN.{length, take, drop}

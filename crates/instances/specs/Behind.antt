@@ -1,4 +1,5 @@
 -- The simple type behind the first byte of a text: the U of `*` U D and of `>` U T.
+-- REQUIREMENTS, Types.
 use Prim.Native.Nat.{ℕ}
 use mathlib.Core.Bool.{cond}
 use mathlib.Core.List.{List, []}

@@ -1,6 +1,7 @@
 -- Whether a line is an instance of the rule that it names, as a test on texts: what the rule asks of contexts and types, and that the
 -- term is the one that it builds of the premises' terms. `proofs/TextInstance.antt` shows that on the texts of judgements these are the
 -- tests of `derivation_files/specs/Instance.antt`.
+-- REQUIREMENTS, Typing.
 use Prim.Native.Nat.{ℕ}
 use mathlib.Core.Bool.{Bool, false, _&&_}
 use mathlib.Core.List.{List, _++_}

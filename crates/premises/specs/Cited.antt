@@ -1,4 +1,5 @@
 -- What a premise field names, by where the earlier lines begin.
+-- REQUIREMENTS, Derivation files.
 use Prim.Native.Nat.{ℕ, zero, suc, _-_}
 use mathlib.Core.Bool.{Bool, true, false, _&&_, cond}
 use mathlib.Core.List.{List}

@@ -1,4 +1,5 @@
 -- The text that a rewrite makes, in pieces. Assumes nothing.
+-- REQUIREMENTS, Rules.
 use Prim.Native.Nat.{ℕ, zero, suc}
 use mathlib.Core.List.{List, [], _∷_}
 use lib.ListN.{length}

@@ -1,4 +1,5 @@
 -- The typing rules as the code has them: by name, with how many premises each has and the term that it builds, as a test on texts.
+-- REQUIREMENTS, Typing.
 use Prim.Native.Nat.{ℕ}
 use mathlib.Core.Bool.{Bool, true, false}
 use mathlib.Core.List.{List, [], _∷_, _++_}

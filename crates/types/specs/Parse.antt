@@ -1,6 +1,7 @@
 -- The simple type, the context and the type that a text is of, as functions on any bytes: what `simpleText`, `contextText` and
 -- `tyText` undo. The signs are taken from the last to the first: `>` takes the two simple types that stand to its right, `*` the
 -- simple type and the context; a sign that lacks them stays loose.
+-- REQUIREMENTS, Types.
 use Prim.Native.Nat.{ℕ}
 use mathlib.Core.List.{List, [], _∷_}
 use mathlib.Core.Option.{Option, none, some}

@@ -1,5 +1,6 @@
 -- Where the simple type ends that stands at a place of any bytes. The bytes are taken from the first to the last, with a count of the
 -- simple types still owed.
+-- REQUIREMENTS, Types.
 use Prim.Native.Nat.{ℕ, zero, suc, _-_}
 use mathlib.Core.List.{List, [], _∷_}
 use mathlib.Core.Option.{Option, none, some}

@@ -1,4 +1,5 @@
 -- The signs that bytes are written in, as a function on any bytes: what `written` undoes.
+-- REQUIREMENTS, Types.
 use Prim.Native.Nat.{ℕ, _≤_}
 use mathlib.Core.List.{List, [], _∷_}
 use mathlib.Core.Option.{Option, none, some}

@@ -1,4 +1,5 @@
 -- Whether bytes are the text of a type, of a simple type, of a context: tests on what the readers of Parse.antt find.
+-- REQUIREMENTS, Types.
 use mathlib.Core.Bool.{Bool, true, false}
 use mathlib.Core.Option.{Option, none, some}
 use Rattle.calculus.specs.Types.{Ty}
