@@ -69,7 +69,7 @@ pub fn read(s: &[u8]) -> Reading
 // What stands in the place of an arity for a byte that is no letter.
 pub const NO_LETTER: usize = 3;
 
-// How many terms the letter of a byte takes. The compiler makes one table of the comparisons.
+// How many terms the letter of a byte takes.
 pub fn arity(b: u8) -> usize
     ensures { λ r. ⌜ r ≡ arityOf b ⌝ }
 {
