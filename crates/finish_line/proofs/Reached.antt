@@ -16,9 +16,9 @@ use Rattle.slices.specs.Split.{tab, lineFeed}
 use Rattle.slices.specs.Numeral.{digit0, decimalOf}
 use Rattle.slices.proofs.Splitting.{Free, free-append}
 use Rattle.slices.proofs.Decimal.{and-both, decimal-free}
-use Rattle.decimals.specs.declared.read.Decimal.{Decimal}
-use Rattle.decimals.specs.declared.read.Parsed.{Parsed}
-use Rattle.decimals.specs.declared.read.Parsed.the-variants.{Number, NoNumber}
+use Rattle.decimals.specs.declared.Decimal.{Decimal}
+use Rattle.decimals.specs.declared.Parsed.{Parsed}
+use Rattle.decimals.specs.declared.Parsed.the-variants.{Number, NoNumber}
 use Rattle.decimals.specs.Parsed as decimals
 use Rattle.decimals.proofs.Parsing.{Numbered, state-numbered, state-unnumbered, state-fed}
 use Rattle.finish_line.specs.declared.Line.{Line}

@@ -7,10 +7,10 @@ use lib.Dec.{ltb, eqb}
 use lib.ListN.{set}
 use Rattle.calculus.specs.Limits.{areaLimit, fuelLimit}
 use Rattle.slices.specs.Split.{tab, lineFeed}
-use Rattle.decimals.specs.declared.read.Decimal.{Decimal}
-use Rattle.decimals.specs.declared.read.Decimal.the-variants.{Empty}
-use Rattle.decimals.specs.declared.read.Parsed.{Parsed}
-use Rattle.decimals.specs.declared.read.Parsed.the-variants.{Number, NoNumber}
+use Rattle.decimals.specs.declared.Decimal.{Decimal}
+use Rattle.decimals.specs.declared.Decimal.the-variants.{Empty}
+use Rattle.decimals.specs.declared.Parsed.{Parsed}
+use Rattle.decimals.specs.declared.Parsed.the-variants.{Number, NoNumber}
 use Rattle.decimals.specs.Parsed as decimals
 use Rattle.finish_line.specs.Request.{isAreaSize}
 use Rattle.finish_line.specs.declared.Line.{Line}

@@ -16,7 +16,7 @@ pub fn print_line(word: &[u8], number: u64, rest: &[u8], out: &mut [u8]) -> usiz
     ensures { λ r. ⌜ (now (out .exit) ≡ put 0 (lineOf (now (word .entry)) number (now (rest .entry))) (now (out .entry)))
         × (r ≡ behind 0 (lineOf (now (word .entry)) number (now (rest .entry))) (now (out .entry))) ⌝ }
 {
-    let front = word.len() + decimals::decimal_length(number) + 3;
+    let front = word.len() + numerals::decimal_length(number) + 3;
     if out.len() < rest.len() {
         return 0;
     }
@@ -33,7 +33,7 @@ pub fn print_numbers(word: &[u8], first: u64, second: u64, out: &mut [u8]) -> us
     ensures { λ r. ⌜ (now (out .exit) ≡ put 0 (numbersOf (now (word .entry)) first second) (now (out .entry)))
         × (r ≡ behind 0 (numbersOf (now (word .entry)) first second) (now (out .entry))) ⌝ }
 {
-    let digits = decimals::decimal_length(first) + decimals::decimal_length(second);
+    let digits = numerals::decimal_length(first) + numerals::decimal_length(second);
     if out.len() < word.len() + digits + 3 {
         return 0;
     }
@@ -47,7 +47,7 @@ pub fn print_count(word: &[u8], count: u64, out: &mut [u8]) -> usize
     ensures { λ r. ⌜ (now (out .exit) ≡ put 0 (countOf (now (word .entry)) count) (now (out .entry)))
         × (r ≡ behind 0 (countOf (now (word .entry)) count) (now (out .entry))) ⌝ }
 {
-    if out.len() < word.len() + decimals::decimal_length(count) + 2 {
+    if out.len() < word.len() + numerals::decimal_length(count) + 2 {
         return 0;
     }
     let a = append_field(word, TAB, out, 0);
@@ -77,9 +77,9 @@ pub fn append_number(number: u64, mark: u8, out: &mut [u8], at: usize) -> usize
     if out.len() <= at {
         return at;
     }
-    if out.len() - at <= decimals::decimal_length(number) {
+    if out.len() - at <= numerals::decimal_length(number) {
         return at;
     }
-    let last = decimals::append_decimal(number, out, at);
+    let last = numerals::append_decimal(number, out, at);
     slices::append_byte(mark, out, last)
 }

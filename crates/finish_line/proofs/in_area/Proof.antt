@@ -1,7 +1,7 @@
 -- `finish_line::in_area` meets its contract: its test is the definition's. Assumes nothing.
 use mathlib.Core.Path.{ap, _∙_}
 use borrow.Author.Tests.{eq-eqb, ne-eqb}
-use Rattle.decimals.specs.declared.read.Decimal.{Decimal}
+use Rattle.decimals.specs.declared.Decimal.{Decimal}
 use Rattle.finish_line.specs.declared.Line.the-variants.{InArea}
 use Rattle.finish_line.specs.Fed.{areaRead}
 use borrow.Author.Needs.{needs}

@@ -1,4 +1,4 @@
--- `decimals::write_digits` meets its contract. The invariant: with the digits of the number that is left put in front, `dst` is what it is
+-- `numerals::write_digits` meets its contract. The invariant: with the digits of the number that is left put in front, `dst` is what it is
 -- to be. The measure is the number that is left. Assumes nothing.
 use Prim.Native.Nat.{ℕ, _+_, _-_, _≤_}
 use native.Mathlib.Omega.{arith}
@@ -7,9 +7,9 @@ use mathlib.Core.Path.{_≡_, refl, ap, _∙_}
 use lib.ListN.{length, length-set}
 use Rattle.slices.specs.Numeral.{decimal}
 use Rattle.slices.specs.Put.{put}
-use Rattle.decimals.proofs.Writing.{length-tenth, length-digit, digit-turn, digit-first}
-use Rattle.decimals.proofs.write.write_digits.Statement.{statement}
-use Rattle.decimals.proofs.write.write_digits.Tie as tie
+use Rattle.numerals.proofs.Writing.{length-tenth, length-digit, digit-turn, digit-first}
+use Rattle.numerals.proofs.write_digits.Statement.{statement}
+use Rattle.numerals.proofs.write_digits.Tie as tie
 
 abbrev Inv-loop : tie.InvT-loop
 Inv-loop n dst₀ at end i₀ rest₀ dst i rest =

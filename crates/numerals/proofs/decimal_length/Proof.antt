@@ -1,4 +1,4 @@
--- `decimals::decimal_length` meets its contract. The invariant: the digits counted and those of the number that is left are one more than
+-- `numerals::decimal_length` meets its contract. The invariant: the digits counted and those of the number that is left are one more than
 -- the number has. The measure is the number that is left. Assumes nothing.
 use Prim.Native.Nat.{ℕ, _+_, _≤_}
 use native.Mathlib.Omega.{arith}
@@ -6,9 +6,9 @@ use mathlib.Core.Path.{_≡_}
 use lib.ListN.{length}
 use Rattle.slices.specs.Numeral.{decimal}
 use Rattle.slices.proofs.Decimal.{decimal-length}
-use Rattle.decimals.proofs.Writing.{length-tenth, length-digit}
-use Rattle.decimals.proofs.write.decimal_length.Statement.{statement}
-use Rattle.decimals.proofs.write.decimal_length.Tie as tie
+use Rattle.numerals.proofs.Writing.{length-tenth, length-digit}
+use Rattle.numerals.proofs.decimal_length.Statement.{statement}
+use Rattle.numerals.proofs.decimal_length.Tie as tie
 
 abbrev Inv-loop : tie.InvT-loop
 Inv-loop n count₀ rest₀ count rest = (length (decimal n) + 1 ≡ count + length (decimal rest)) × (count + rest ≤ n + 1)

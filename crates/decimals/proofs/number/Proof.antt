@@ -1,7 +1,7 @@
--- `read::number` meets its contract: case by case. Assumes nothing.
+-- `decimals::number` meets its contract: case by case. Assumes nothing.
 use borrow.Author.Needs.{needs}
-use Rattle.decimals.proofs.read.number.Statement.{statement}
-use Rattle.decimals.proofs.read.number.Tie as tie
+use Rattle.decimals.proofs.number.Statement.{statement}
+use Rattle.decimals.proofs.number.Tie as tie
 
 enum-told : tie.Need-enum-told
 enum-told c = search needs

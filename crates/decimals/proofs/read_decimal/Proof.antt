@@ -1,4 +1,4 @@
--- `read::read_decimal` meets its contract. The loop's invariant: feeding what is left of the slice to the state so far comes to the
+-- `decimals::read_decimal` meets its contract. The loop's invariant: feeding what is left of the slice to the state so far comes to the
 -- whole slice's state. The measure is what is left of the slice. Assumes nothing.
 use borrow.Author.Needs.{needs}
 use mathlib.Core.Path.{_≡_, refl, _∙_}
@@ -7,8 +7,8 @@ use native.Mathlib.Omega.{arith}
 use lib.ListN.{length, drop}
 use Rattle.decimals.specs.Parsed.{fedAll, stateOf}
 use Rattle.decimals.proofs.Parsing.{fed-turn, fed-end}
-use Rattle.decimals.proofs.read.read_decimal.Statement.{statement}
-use Rattle.decimals.proofs.read.read_decimal.Tie as tie
+use Rattle.decimals.proofs.read_decimal.Statement.{statement}
+use Rattle.decimals.proofs.read_decimal.Tie as tie
 
 abbrev Inv-loop : tie.InvT-loop
 Inv-loop s cap decimal₀ i₀ decimal i = (i ≤ length s) × (fedAll cap decimal (drop i s) ≡ stateOf cap s)

@@ -1,4 +1,4 @@
-// A number's decimal digits written into a slice. Total: the definition says what happens where they do not fit.
+// A number's decimal digits, without leading zeros, written into a slice. Total: the definition says what happens where they do not fit.
 ghost use mathlib.Core.Path.{_≡_};
 ghost use Prim.Native.Nat.{_+_, _%_, _≤_};
 ghost use lib.ListN.{length};

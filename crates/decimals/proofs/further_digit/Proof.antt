@@ -1,10 +1,10 @@
--- `read::further_digit` meets its contract: its test is the definition's. Assumes nothing.
+-- `decimals::further_digit` meets its contract: its test is the definition's. Assumes nothing.
 use mathlib.Core.Path.{sym, ap, _∙_}
 use native.Mathlib.Omega.{arith}
-use Rattle.decimals.specs.declared.read.Decimal.the-variants.{Digits}
+use Rattle.decimals.specs.declared.Decimal.the-variants.{Digits}
 use borrow.Author.Needs.{needs}
-use Rattle.decimals.proofs.read.further_digit.Statement.{statement}
-use Rattle.decimals.proofs.read.further_digit.Tie as tie
+use Rattle.decimals.proofs.further_digit.Statement.{statement}
+use Rattle.decimals.proofs.further_digit.Tie as tie
 
 is-digit-requires : tie.Need-is-digit-requires
 is-digit-requires c κs = search needs

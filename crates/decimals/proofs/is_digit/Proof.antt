@@ -1,11 +1,11 @@
--- `read::is_digit` meets its contract: its two tests are the definition's. Assumes nothing.
+-- `decimals::is_digit` meets its contract: its two tests are the definition's. Assumes nothing.
 use mathlib.Core.Path.{_≡_, sym, ap, _∙_}
 use mathlib.Core.Bool.{Bool, false, _&&_}
 use lib.Dec.{leb}
 use borrow.Author.Tests.{le-leb, lt-leb}
 use Rattle.slices.specs.Numeral.{digit0, digit9}
-use Rattle.decimals.proofs.read.is_digit.Statement.{statement}
-use Rattle.decimals.proofs.read.is_digit.Tie as tie
+use Rattle.decimals.proofs.is_digit.Statement.{statement}
+use Rattle.decimals.proofs.is_digit.Tie as tie
 
 returns : tie.Need-returns
 returns c = sym (ap (λ (t : Bool). t && leb (c .before .args .b) digit9) (le-leb digit0 (c .before .args .b) (c .if1 .taken)))

@@ -1,11 +1,11 @@
--- `decimals::append_decimal` meets its contract: its tests are those of `put` and `behind`. Assumes nothing.
+-- `numerals::append_decimal` meets its contract: its tests are those of `put` and `behind`. Assumes nothing.
 use native.Mathlib.Omega.{arith}
 use mathlib.Core.Path.{sym}
 use borrow.Author.Needs.{needs}
 use Rattle.slices.specs.Numeral.{decimal}
 use Rattle.slices.proofs.Put.{put-short, behind-fits, behind-short}
-use Rattle.decimals.proofs.write.append_decimal.Statement.{statement}
-use Rattle.decimals.proofs.write.append_decimal.Tie as tie
+use Rattle.numerals.proofs.append_decimal.Statement.{statement}
+use Rattle.numerals.proofs.append_decimal.Tie as tie
 
 decimal-length-requires : tie.Need-decimal-length-requires
 decimal-length-requires c κs = search needs

@@ -1,7 +1,7 @@
--- `read::feed` meets its contract: each case has its own function. Assumes nothing.
+-- `decimals::feed` meets its contract: each case has its own function. Assumes nothing.
 use borrow.Author.Needs.{needs}
-use Rattle.decimals.proofs.read.feed.Statement.{statement}
-use Rattle.decimals.proofs.read.feed.Tie as tie
+use Rattle.decimals.proofs.feed.Statement.{statement}
+use Rattle.decimals.proofs.feed.Tie as tie
 
 enum-told : tie.Need-enum-told
 enum-told c = search needs

@@ -1,8 +1,8 @@
--- `read::first_digit` meets its contract: its test is the definition's. Assumes nothing.
+-- `decimals::first_digit` meets its contract: its test is the definition's. Assumes nothing.
 use borrow.Author.Tests.{eq-eqb, ne-eqb}
 use borrow.Author.Needs.{needs}
-use Rattle.decimals.proofs.read.first_digit.Statement.{statement}
-use Rattle.decimals.proofs.read.first_digit.Tie as tie
+use Rattle.decimals.proofs.first_digit.Statement.{statement}
+use Rattle.decimals.proofs.first_digit.Tie as tie
 
 returns : tie.Need-returns
 returns c = rw (eq-eqb _ _ (c .if1 .taken))
