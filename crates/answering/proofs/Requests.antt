@@ -9,7 +9,7 @@ use lib.ListN.{length, take, drop, length-take, drop-of-length-le}
 use lib.Seq.{take-all, take-at}
 use Rattle.finish_line.specs.declared.Asked.{Asked}
 use Rattle.finish_line.specs.declared.Asked.the-variants.{OtherShape, Request}
-use Rattle.printing.proofs.Writing.{Appends}
+use Rattle.columns.proofs.Appending.{Appends}
 use Rattle.reading.specs.Reply.{Reply}
 use Rattle.finishing.specs.Finishing.{Ran, After, finishingOf}
 use Rattle.answering.specs.Shown.{replyLine, shownRun}

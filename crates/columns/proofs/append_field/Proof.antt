@@ -1,9 +1,9 @@
--- `printing::append_field` meets its contract: the piece is the whole field, and the mark stands behind it. Assumes nothing.
+-- `columns::append_field` meets its contract: the piece is the whole field, and the mark stands behind it. Assumes nothing.
 use native.Mathlib.Omega.{arith}
-use Rattle.printing.proofs.Writing.{appends-whole, appends-mark, mark-none}
+use Rattle.columns.proofs.Appending.{appends-whole, appends-mark, mark-none}
 use borrow.Author.Needs.{needs}
-use Rattle.printing.proofs.append_field.Statement.{statement}
-use Rattle.printing.proofs.append_field.Tie as tie
+use Rattle.columns.proofs.append_field.Statement.{statement}
+use Rattle.columns.proofs.append_field.Tie as tie
 
 returns : tie.Need-returns
 returns c =

@@ -1,10 +1,10 @@
--- `printing::append_number` meets its contract: the digits, and the mark behind them. Assumes nothing.
+-- `columns::append_number` meets its contract: the digits, and the mark behind them. Assumes nothing.
 use native.Mathlib.Omega.{arith}
 use Rattle.slices.specs.Numeral.{decimal}
-use Rattle.printing.proofs.Writing.{appends-mark, mark-none}
+use Rattle.columns.proofs.Appending.{appends-mark, mark-none}
 use borrow.Author.Needs.{needs}
-use Rattle.printing.proofs.append_number.Statement.{statement}
-use Rattle.printing.proofs.append_number.Tie as tie
+use Rattle.columns.proofs.append_number.Statement.{statement}
+use Rattle.columns.proofs.append_number.Tie as tie
 
 returns : tie.Need-returns
 returns c =
