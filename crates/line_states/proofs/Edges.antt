@@ -3,8 +3,8 @@ use mathlib.Core.Path.{_≡_, refl}
 use mathlib.Core.List.{map}
 use Rattle.calculus.specs.Ascii.{ascii}
 use Rattle.slices.specs.Numeral.{numberOf, decimalOf}
-use Rattle.finish_line.specs.Request.{requestOf}
-use Rattle.finish_line.specs.Edges.{Row, rows}
+use Rattle.line_states.specs.Request.{requestOf}
+use Rattle.line_states.specs.Edges.{Row, rows}
 
 pub rows-hold : map (λ (r : Row). requestOf (ascii (r .input))) rows ≡ map (λ (r : Row). r .expected) rows
 unfolding requestOf decimalOf numberOf

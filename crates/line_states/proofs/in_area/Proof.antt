@@ -1,12 +1,12 @@
--- `finish_line::in_area` meets its contract: its test is the definition's. Assumes nothing.
+-- `line_states::in_area` meets its contract: its test is the definition's. Assumes nothing.
 use mathlib.Core.Path.{ap, _∙_}
 use borrow.Author.Tests.{eq-eqb, ne-eqb}
 use Rattle.decimals.specs.declared.Decimal.{Decimal}
-use Rattle.finish_line.specs.declared.Line.the-variants.{InArea}
-use Rattle.finish_line.specs.Fed.{areaRead}
+use Rattle.line_states.specs.declared.Line.the-variants.{InArea}
+use Rattle.line_states.specs.Fed.{areaRead}
 use borrow.Author.Needs.{needs}
-use Rattle.finish_line.proofs.in_area.Statement.{statement}
-use Rattle.finish_line.proofs.in_area.Tie as tie
+use Rattle.line_states.proofs.in_area.Statement.{statement}
+use Rattle.line_states.proofs.in_area.Tie as tie
 
 number-requires : tie.Need-number-requires
 number-requires c κs = search needs

@@ -21,15 +21,15 @@ use Rattle.decimals.specs.declared.Parsed.{Parsed}
 use Rattle.decimals.specs.declared.Parsed.the-variants.{Number, NoNumber}
 use Rattle.decimals.specs.Parsed as decimals
 use Rattle.decimals.proofs.Parsing.{Numbered, state-numbered, state-unnumbered, state-fed}
-use Rattle.finish_line.specs.declared.Line.{Line}
-use Rattle.finish_line.specs.declared.Line.the-variants.{InFuel, InArea, InTerm, Ended, Other}
-use Rattle.finish_line.specs.Request.{isAreaSize, requestOf}
-use Rattle.finish_line.specs.Fed.{fuelCap, areaCap, lengthCap, fuelRead, inFuelIf, areaIf, areaRead, inAreaIf, inTermIf, isTermByteIf}
-use Rattle.finish_line.specs.Fed.{fedByte, fed, State, state}
-use Rattle.finish_line.specs.Kept.{keptIn}
-use Rattle.finish_line.proofs.Shape.{threeFields, Field, Unsized, unsized-none, unsized-range}
-use Rattle.finish_line.proofs.Shape.{fuel-dead, area-dead, tab-dead, ended-dead}
-use Rattle.finish_line.proofs.Buffer.{kept-none, kept-byte}
+use Rattle.line_states.specs.declared.Line.{Line}
+use Rattle.line_states.specs.declared.Line.the-variants.{InFuel, InArea, InTerm, Ended, Other}
+use Rattle.line_states.specs.Request.{isAreaSize, requestOf}
+use Rattle.line_states.specs.Fed.{fuelCap, areaCap, lengthCap, fuelRead, inFuelIf, areaIf, areaRead, inAreaIf, inTermIf}
+use Rattle.line_states.specs.Kept.{isTermByteIf, keptIn}
+use Rattle.line_states.specs.State.{State, state, fedByte, fed}
+use Rattle.line_states.proofs.Shape.{threeFields, Field, Unsized, unsized-none, unsized-range}
+use Rattle.line_states.proofs.Shape.{fuel-dead, area-dead, tab-dead, ended-dead}
+use Rattle.line_states.proofs.Buffer.{kept-none, kept-byte}
 
 -- a number is a field
 pub number-field : (s : List ℕ) (n : ℕ) → decimalOf s ≡ some n → Field s

@@ -1,7 +1,7 @@
--- `finish_line::fed_line` meets its contract: each field has its own function. Assumes nothing.
+-- `line_states::fed_line` meets its contract: each field has its own function. Assumes nothing.
 use borrow.Author.Needs.{needs}
-use Rattle.finish_line.proofs.fed_line.Statement.{statement}
-use Rattle.finish_line.proofs.fed_line.Tie as tie
+use Rattle.line_states.proofs.fed_line.Statement.{statement}
+use Rattle.line_states.proofs.fed_line.Tie as tie
 
 enum-known-line : tie.Need-enum-known-line
 enum-known-line c = search needs

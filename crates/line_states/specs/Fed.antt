@@ -1,10 +1,8 @@
--- The line as a state that is fed byte by byte: which field it is in, the numbers so far, and the buffer that holds the term's bytes
--- (REQUIREMENTS, Programs). `Request` has the same on the whole input; proofs/Asks.antt ties the two.
+-- The line as a state that is fed byte by byte: which field it is in, and the numbers so far (REQUIREMENTS, Programs). `Request` has the
+-- same on the whole input; proofs/Reached.antt ties the two.
 use Prim.Native.Nat.{ℕ, suc, min}
-use mathlib.Core.Bool.{Bool, true, false, cond}
-use mathlib.Core.List.{List, [], _∷_}
-use lib.Dec.{ltb, eqb}
-use lib.ListN.{set}
+use mathlib.Core.Bool.{Bool, true, false}
+use lib.Dec.{eqb}
 use Rattle.calculus.specs.Limits.{areaLimit, fuelLimit}
 use Rattle.slices.specs.Split.{tab, lineFeed}
 use Rattle.decimals.specs.declared.Decimal.{Decimal}
@@ -12,9 +10,9 @@ use Rattle.decimals.specs.declared.Decimal.the-variants.{Empty}
 use Rattle.decimals.specs.declared.Parsed.{Parsed}
 use Rattle.decimals.specs.declared.Parsed.the-variants.{Number, NoNumber}
 use Rattle.decimals.specs.Parsed as decimals
-use Rattle.finish_line.specs.Request.{isAreaSize}
-use Rattle.finish_line.specs.declared.Line.{Line}
-use Rattle.finish_line.specs.declared.Line.the-variants.{InFuel, InArea, InTerm, Ended, Other}
+use Rattle.line_states.specs.Request.{isAreaSize}
+use Rattle.line_states.specs.declared.Line.{Line}
+use Rattle.line_states.specs.declared.Line.the-variants.{InFuel, InArea, InTerm, Ended, Other}
 
 -- fuel from here on is refused alike (number 4), and so are area sizes (number 19) and term lengths (number 3)
 abbrev pub fuelCap : ℕ
@@ -72,42 +70,6 @@ fedLine (InArea fuel number) b = inArea fuel number b
 fedLine (InTerm fuel area length) b = inTerm fuel area length b
 fedLine (Ended fuel area length) b = Other
 fedLine Other b = Other
-
--- whether a byte of the term field is kept: tab and line feed are none of the term's, and the cap's worth of bytes is enough
-abbrev pub isTermByteIf : (ends tabbed room : Bool) → Bool
-isTermByteIf true tabbed room = false
-isTermByteIf false true room = false
-isTermByteIf false false room = room
-
-abbrev pub isTermByte : (length b : ℕ) → Bool
-isTermByte length b = isTermByteIf (eqb b lineFeed) (eqb b tab) (ltb length lengthCap)
-
--- the buffer with that byte behind the ones that it holds, as it is where the byte is none of the term's or has no room
-abbrev pub keptAt : (length b : ℕ) → List ℕ → List ℕ
-keptAt length b buffer = cond (isTermByte length b) (set buffer length b) buffer
-
-abbrev pub keptByte : Line → ℕ → List ℕ → List ℕ
-keptByte (InFuel number) b buffer = buffer
-keptByte (InArea fuel number) b buffer = buffer
-keptByte (InTerm fuel area length) b buffer = keptAt length b buffer
-keptByte (Ended fuel area length) b buffer = buffer
-keptByte Other b buffer = buffer
-
--- the line, and the lent buffer as it stands
-pub record State : Type 0 where
-  pub line : Line
-  pub buffer : List ℕ
-
-abbrev pub state : Line → List ℕ → State
-state l buffer = record { line = l; buffer = buffer }
-
-abbrev pub fedByte : State → ℕ → State
-fedByte s b = state (fedLine (s .line) b) (keptByte (s .line) b (s .buffer))
-
--- all bytes of a chunk, one after the other
-abbrev pub fed : State → List ℕ → State
-fed s [] = s
-fed s (b ∷ bytes) = fed (fedByte s b) bytes
 
 -- before the first byte
 abbrev pub startLine : Line

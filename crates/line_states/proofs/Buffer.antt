@@ -7,7 +7,7 @@ use mathlib.Core.Path.{_≡_, sym, _∙_, ap, ap₂}
 use mathlib.Core.List.{List, [], _∷_, _++_, append-nil}
 use lib.ListN.{length, take, drop, set, getD, length-append, length-take, drop-of-length-le}
 use lib.Seq.{take-all, take-nil, take-take, take-append-le, set-append-seam, set-out, drop-cons, append-snoc}
-use Rattle.finish_line.specs.Kept.{keptIn}
+use Rattle.line_states.specs.Kept.{keptIn}
 
 -- nothing kept
 pub kept-none : (d : List ℕ) → keptIn d [] ≡ d
@@ -32,9 +32,14 @@ module _ (d t : List ℕ) (b : ℕ) where
   kept-full h =
       let none : (n : ℕ) → length d ≤ n → drop n d ≡ [] = λ n k. drop-of-length-le d k in
       let short : length (take (length d) t ++ drop (length t) d) ≤ length t =
-      omega (arith, ap length (ap (λ (l : List ℕ). take (length d) t ++ l) (none (length t) h) ∙ append-nil (take (length d) t)), length-take (length d) t) in
+      omega (
+        arith,
+        ap length (ap (λ (l : List ℕ). take (length d) t ++ l) (none (length t) h) ∙ append-nil (take (length d) t)),
+        length-take (length d) t,
+      ) in
       set-out (keptIn d t) (length t) b short
-      ∙ ap₂ (λ (u r : List ℕ). u ++ r) (sym (take-append-le (length d) t (b ∷ []) h)) (none (length t) h ∙ sym (none (length (t ++ (b ∷ []))) (omega (arith, longer))))
+      ∙ ap₂ (λ (u r : List ℕ). u ++ r) (sym (take-append-le (length d) t (b ∷ []) h))
+      (none (length t) h ∙ sym (none (length (t ++ (b ∷ []))) (omega (arith, longer))))
 
   -- one byte more is one store behind the bytes that are kept
   pub kept-byte : set (keptIn d t) (length t) b ≡ keptIn d (t ++ (b ∷ []))

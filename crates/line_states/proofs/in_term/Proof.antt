@@ -1,11 +1,11 @@
--- `finish_line::in_term` meets its contract: its tests are the definition's. Assumes nothing.
+-- `line_states::in_term` meets its contract: its tests are the definition's. Assumes nothing.
 use Prim.Native.Nat.{ℕ}
 use mathlib.Core.Path.{ap}
 use borrow.Author.Tests.{eq-eqb, ne-eqb}
-use Rattle.finish_line.specs.declared.Line.the-variants.{InTerm}
+use Rattle.line_states.specs.declared.Line.the-variants.{InTerm}
 use borrow.Author.Needs.{needs}
-use Rattle.finish_line.proofs.in_term.Statement.{statement}
-use Rattle.finish_line.proofs.in_term.Tie as tie
+use Rattle.line_states.proofs.in_term.Statement.{statement}
+use Rattle.line_states.proofs.in_term.Tie as tie
 
 returns : tie.Need-returns
 returns c = rw (eq-eqb _ _ (c .if1 .taken))

@@ -11,7 +11,7 @@ use Rattle.slices.specs.Split.{tab, lineFeed, consFirst, cutOr, split, fields}
 use Rattle.slices.specs.Numeral.{decimalOf}
 use Rattle.slices.proofs.Splitting.{Free, free-append, pieces, split-front, split-piece, split-last}
 use Rattle.slices.proofs.Splitting.{First, first-map, Uncut, Begun, first-uncut, first-begun}
-use Rattle.finish_line.specs.Request.{Request, requestIf, isAreaSize, requestWith, requestFields, requestLines, requestOf}
+use Rattle.line_states.specs.Request.{Request, requestIf, isAreaSize, requestWith, requestFields, requestLines, requestOf}
 
 -- a line up to the end of its third field
 abbrev pub threeFields : (fuel area term : List ℕ) → List ℕ

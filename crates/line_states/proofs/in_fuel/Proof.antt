@@ -1,11 +1,11 @@
--- `finish_line::in_fuel` meets its contract: its test is the definition's. Assumes nothing.
+-- `line_states::in_fuel` meets its contract: its test is the definition's. Assumes nothing.
 use mathlib.Core.Path.{ap, _∙_}
 use borrow.Author.Tests.{eq-eqb, ne-eqb}
-use Rattle.finish_line.specs.declared.Line.the-variants.{InFuel}
-use Rattle.finish_line.specs.Fed.{fuelRead}
+use Rattle.line_states.specs.declared.Line.the-variants.{InFuel}
+use Rattle.line_states.specs.Fed.{fuelRead}
 use borrow.Author.Needs.{needs}
-use Rattle.finish_line.proofs.in_fuel.Statement.{statement}
-use Rattle.finish_line.proofs.in_fuel.Tie as tie
+use Rattle.line_states.proofs.in_fuel.Statement.{statement}
+use Rattle.line_states.proofs.in_fuel.Tie as tie
 
 number-requires : tie.Need-number-requires
 number-requires c κs = search needs

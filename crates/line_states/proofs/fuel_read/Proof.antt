@@ -1,7 +1,7 @@
--- `finish_line::fuel_read` meets its contract: case by case. Assumes nothing.
+-- `line_states::fuel_read` meets its contract: case by case. Assumes nothing.
 use borrow.Author.Needs.{needs}
-use Rattle.finish_line.proofs.fuel_read.Statement.{statement}
-use Rattle.finish_line.proofs.fuel_read.Tie as tie
+use Rattle.line_states.proofs.fuel_read.Statement.{statement}
+use Rattle.line_states.proofs.fuel_read.Tie as tie
 
 enum-known-parsed : tie.Need-enum-known-parsed
 enum-known-parsed c = search needs

@@ -1,8 +1,8 @@
--- `finish_line::area_read` meets its contract: case by case, and its test is the definition's. Assumes nothing.
+-- `line_states::area_read` meets its contract: case by case, and its test is the definition's. Assumes nothing.
 use mathlib.Core.Path.{sym, _∙_}
 use borrow.Author.Needs.{needs}
-use Rattle.finish_line.proofs.area_read.Statement.{statement}
-use Rattle.finish_line.proofs.area_read.Tie as tie
+use Rattle.line_states.proofs.area_read.Statement.{statement}
+use Rattle.line_states.proofs.area_read.Tie as tie
 
 enum-known-parsed : tie.Need-enum-known-parsed
 enum-known-parsed c = search needs

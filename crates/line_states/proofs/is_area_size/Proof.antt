@@ -1,11 +1,11 @@
--- `finish_line::is_area_size` meets its contract: its two tests are the definition's. Assumes nothing.
+-- `line_states::is_area_size` meets its contract: its two tests are the definition's. Assumes nothing.
 use mathlib.Core.Path.{_≡_, sym, ap, _∙_}
 use mathlib.Core.Bool.{Bool, false, _&&_}
 use lib.Dec.{leb}
 use Rattle.calculus.specs.Limits.{areaLimit}
 use borrow.Author.Tests.{le-leb, lt-leb}
-use Rattle.finish_line.proofs.is_area_size.Statement.{statement}
-use Rattle.finish_line.proofs.is_area_size.Tie as tie
+use Rattle.line_states.proofs.is_area_size.Statement.{statement}
+use Rattle.line_states.proofs.is_area_size.Tie as tie
 
 returns : tie.Need-returns
 returns c = sym (ap (λ (t : Bool). t && leb (c .before .args .n) areaLimit) (le-leb 1 (c .before .args .n) (c .if1 .taken)))

@@ -5,7 +5,7 @@ use Prim.Native.String.{String}
 use mathlib.Core.List.{List, [], _∷_}
 use mathlib.Core.Option.{Option, none, some}
 use Rattle.calculus.specs.Ascii.{ascii}
-use Rattle.finish_line.specs.Request.{Request}
+use Rattle.line_states.specs.Request.{Request}
 
 pub record Row : Type 0 where
   pub input : String
