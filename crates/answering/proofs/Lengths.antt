@@ -23,7 +23,7 @@ use Rattle.finishing.proofs.Calls.{Call, call}
 use Rattle.printing.specs.Printed.{lineOf, countOf}
 use Rattle.printing.proofs.Writing.{length-row}
 use Rattle.line_states.specs.Request.{Request, requestOf}
-use Rattle.answering.specs.Shown.{word, refusedLine, shownRun, shownCheck}
+use Rattle.answer_lines.specs.Shown.{word, refusedLine, shownRun, shownCheck}
 use Rattle.answering.specs.Program.{areaWith, requestLine, finishProgram}
 use Rattle.answering.proofs.Zeros.{zeros}
 

@@ -20,7 +20,7 @@ use Rattle.finish_line.specs.Answer.{askedOf}
 use Rattle.line_states.specs.Fed.{fuelCap, lengthCap}
 use Rattle.finish_line.specs.declared.Asked.{Asked}
 use Rattle.finish_line.proofs.Asks.{Answers, inputOf, after, line-answers}
-use Rattle.answering.specs.Shown.{shownRun, shownCheck}
+use Rattle.answer_lines.specs.Shown.{shownRun, shownCheck}
 use Rattle.answering.specs.Program.{areaWith, requestLine, finishProgram, checkProgram, unlessFailed}
 use Rattle.answering.specs.Answer.{printedRun}
 use Rattle.answering.proofs.Ranges.{Ranged, ranged}

@@ -12,10 +12,10 @@ use Rattle.finish_line.specs.declared.Asked.the-variants.{OtherShape, Request}
 use Rattle.columns.proofs.Appending.{Appends}
 use Rattle.reading.specs.Reply.{Reply}
 use Rattle.finishing.specs.Finishing.{Ran, After, finishingOf}
-use Rattle.answering.specs.Shown.{replyLine, shownRun}
+use Rattle.answer_lines.specs.Shown.{replyLine, shownRun}
 use Rattle.answering.specs.Program.{shapeLine}
 use Rattle.answering.specs.Answer.{finishedIn, printedRun, areaIn, workIn, termAfter, workAfter}
-use Rattle.answering.proofs.Printing.{prints}
+use Rattle.answer_lines.proofs.Printing.{prints}
 
 -- a front is cut at the end of a list that is shorter
 pub take-min : (n : ℕ) (s : List ℕ) → take (min n (length s)) s ≡ take n s

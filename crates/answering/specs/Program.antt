@@ -10,7 +10,7 @@ use Rattle.finish_line.specs.Answer.{numberOf}
 use Rattle.finish_line.specs.declared.Asked.the-variants.{OtherShape}
 use Rattle.finishing.specs.Finishing.{finishingOf}
 use Rattle.derivation_files.specs.Checking.{checkingOf}
-use Rattle.answering.specs.Shown.{refusedLine, shownRun, shownCheck}
+use Rattle.answer_lines.specs.Shown.{refusedLine, shownRun, shownCheck}
 
 -- input of another shape
 abbrev pub shapeLine : List ℕ

@@ -1,5 +1,6 @@
 -- `answering::answer_check` meets its contract: checking's promise, and the line of its answer. Assumes nothing.
-use Rattle.answering.proofs.Printing.{prints, checked}
+use Rattle.answer_lines.proofs.Printing.{prints}
+use Rattle.answering.proofs.Verdicts.{checked}
 use borrow.Author.Needs.{needs}
 use Rattle.answering.proofs.answer_check.Statement.{statement}
 use Rattle.answering.proofs.answer_check.Tie as tie

@@ -10,7 +10,6 @@ use Rattle.slices.proofs.Part.{part-front}
 use Rattle.printing.specs.Printed.{lineOf}
 use Rattle.columns.proofs.Appending.{Appends}
 use Rattle.reading.specs.Reply.{Reply, numberIn, placeIn}
-use Rattle.derivation_files.specs.Checking.{checkingOf}
 use Rattle.finishing.specs.Finishing.{Ran}
 use Rattle.finishing.specs.Answer.{replyOf, outcomeOf, ranOf}
 use Rattle.finishing.specs.declared.Admission.{Admission}
@@ -22,17 +21,12 @@ use Rattle.checking.proofs.Checking.{the-type as checking-type}
 use Rattle.checking.proofs.Refused.{refused-reply}
 use Rattle.finishing.specs.declared.Outcome.{Outcome}
 use Rattle.finishing.specs.declared.Run.{Run}
-use Rattle.answering.specs.Shown.{word, refusedLine, ranLine, replyLine, shownCheck}
-use Rattle.answering.specs.Program.{checkProgram}
+use Rattle.answer_lines.specs.Shown.{word, refusedLine, ranLine, replyLine, shownCheck}
 
 -- a line that is printed is any that it equals
-pub prints : (out : List ℕ) (n : ℕ) (out′ : List ℕ) {line line′ : List ℕ} → line ≡ line′ → Appends 0 line out n out′ → Appends 0 line′ out n out′
+pub prints :
+    (out : List ℕ) (n : ℕ) (out′ : List ℕ) {line line′ : List ℕ} → line ≡ line′ → Appends 0 line out n out′ → Appends 0 line′ out n out′
 prints out n out′ e h = subst (λ (l : List ℕ). Appends 0 l out n out′) e h
-
--- the checking program's line is that of checking's answer
-pub checked : (file : List ℕ) {reply : Reply ℕ} → reply ≡ checkingOf file → shownCheck reply ≡ checkProgram file
-unfolding checkProgram
-checked file e = ap shownCheck e
 
 -- the line of a run with that outcome
 pub ran-prints :
@@ -45,7 +39,9 @@ ran-prints run area term out n out′ {o} cut e =
     ∙ ap (λ (p : Outcome). ranLine (Ran.ran (outcomeOf p) (run .count) (run .size)) area) (sym e))
 
 -- the line of a refusal is that of its number and place
-shown-refused : (reply : Reply Unit) (r : Ran) (area : List ℕ) {n p : ℕ} → reply ≡ Reply.refused n p → refusedLine (numberIn reply) (placeIn reply) ≡ replyLine reply r area
+shown-refused :
+    (reply : Reply Unit) (r : Ran) (area : List ℕ) {n p : ℕ} → reply ≡ Reply.refused n p →
+    refusedLine (numberIn reply) (placeIn reply) ≡ replyLine reply r area
 shown-refused (Reply.refused number place) r area e = refl
 shown-refused (Reply.answered done) r area e = let z : _≡_ {A = ℕ} 0 1 = cc in absurd (omega arith)
 
@@ -57,7 +53,9 @@ admission-refused a run area number place k e f =
     ap₂ refusedLine e f ∙ shown-refused (replyOf a) (ranOf run) area (reply-refused a k .2)
 
 -- the line of a run that was not refused
-pub admission-given : (a : Admission) (run : Run) (area : List ℕ) → tagOf admission-type a ≡ 5 → ranLine (ranOf run) area ≡ replyLine (replyOf a) (ranOf run) area
+pub admission-given :
+    (a : Admission) (run : Run) (area : List ℕ) → tagOf admission-type a ≡ 5 →
+    ranLine (ranOf run) area ≡ replyLine (replyOf a) (ranOf run) area
 admission-given a run area k = ap (λ (x : Reply Unit). replyLine x (ranOf run) area) (sym (reply-admitted a k))
 
 check-refused : (reply : Reply ℕ) {n p : ℕ} → reply ≡ Reply.refused n p → refusedLine (numberIn reply) (placeIn reply) ≡ shownCheck reply

@@ -1,8 +1,8 @@
--- `answering::print_finishing` meets its contract: a refusal's line, or the run's. Assumes nothing.
+-- `answer_lines::print_finishing` meets its contract: a refusal's line, or the run's. Assumes nothing.
 use borrow.Author.Needs.{needs}
-use Rattle.answering.proofs.Printing.{prints, admission-refused, admission-given}
-use Rattle.answering.proofs.print_finishing.Statement.{statement}
-use Rattle.answering.proofs.print_finishing.Tie as tie
+use Rattle.answer_lines.proofs.Printing.{prints, admission-refused, admission-given}
+use Rattle.answer_lines.proofs.print_finishing.Statement.{statement}
+use Rattle.answer_lines.proofs.print_finishing.Tie as tie
 
 enum-told : tie.Need-enum-told
 enum-told c = search needs
@@ -29,7 +29,8 @@ returns c =
     let number = c .before .before .before .before .before .number in
     let place = c .before .before .before .before .place in
     let refused = c .before .before .before .before .before .before .before .match .keys2 in
-    prints _ _ _ (admission-refused (a .admission) (a .run) (a .area .now) (number .result) (place .result) refused (number .ensures) (place .ensures))
+    prints _ _ _
+    (admission-refused (a .admission) (a .run) (a .area .now) (number .result) (place .result) refused (number .ensures) (place .ensures))
     (c .before .before .print-numbers .ensures)
 
 print-run-requires : tie.Need-print-run-requires

@@ -1,8 +1,8 @@
--- `answering::print_run` meets its contract: the line of each outcome begins with its word. Assumes nothing.
-use Rattle.answering.proofs.Printing.{ran-prints}
+-- `answer_lines::print_run` meets its contract: the line of each outcome begins with its word. Assumes nothing.
+use Rattle.answer_lines.proofs.Printing.{ran-prints}
 use borrow.Author.Needs.{needs}
-use Rattle.answering.proofs.print_run.Statement.{statement}
-use Rattle.answering.proofs.print_run.Tie as tie
+use Rattle.answer_lines.proofs.print_run.Statement.{statement}
+use Rattle.answer_lines.proofs.print_run.Tie as tie
 
 cut-requires : tie.Need-cut-requires
 cut-requires c κs = search needs
