@@ -1,4 +1,4 @@
--- The lines of finishing's and of checking's answer, case by case. Assumes nothing.
+-- The lines of finishing's answer, case by case. Assumes nothing.
 use Prim.Native.Nat.{ℕ}
 use native.Mathlib.Omega.{arith}
 use mathlib.Core.Path.{_≡_, refl, sym, _∙_, ap, ap₂, subst}
@@ -15,13 +15,9 @@ use Rattle.finishing.specs.Answer.{replyOf, outcomeOf, ranOf}
 use Rattle.finishing.specs.declared.Admission.{Admission}
 use Rattle.finishing.proofs.Admission.{the-type as admission-type}
 use Rattle.finishing.proofs.Ending.{reply-refused, reply-admitted}
-use Rattle.checking.specs.Answer.{answerOf}
-use Rattle.checking.specs.declared.Checking.{Checking}
-use Rattle.checking.proofs.Checking.{the-type as checking-type}
-use Rattle.checking.proofs.Refused.{refused-reply}
 use Rattle.finishing.specs.declared.Outcome.{Outcome}
 use Rattle.finishing.specs.declared.Run.{Run}
-use Rattle.answer_lines.specs.Shown.{word, refusedLine, ranLine, replyLine, shownCheck}
+use Rattle.answer_lines.specs.Shown.{word, refusedLine, ranLine, replyLine}
 
 -- a line that is printed is any that it equals
 pub prints :
@@ -57,13 +53,3 @@ pub admission-given :
     (a : Admission) (run : Run) (area : List ℕ) → tagOf admission-type a ≡ 5 →
     ranLine (ranOf run) area ≡ replyLine (replyOf a) (ranOf run) area
 admission-given a run area k = ap (λ (x : Reply Unit). replyLine x (ranOf run) area) (sym (reply-admitted a k))
-
-check-refused : (reply : Reply ℕ) {n p : ℕ} → reply ≡ Reply.refused n p → refusedLine (numberIn reply) (placeIn reply) ≡ shownCheck reply
-check-refused (Reply.refused number line) e = refl
-check-refused (Reply.answered lines) e = let z : _≡_ {A = ℕ} 0 1 = cc in absurd (omega arith)
-
--- the line of checking's refusal
-pub checking-refused :
-    (found : Checking) (number line : ℕ) → OneOf (0 ∷ 1 ∷ 2 ∷ 3 ∷ 4 ∷ 5 ∷ 6 ∷ 7 ∷ 8 ∷ []) (tagOf checking-type found) →
-    number ≡ numberIn (answerOf found) → line ≡ placeIn (answerOf found) → refusedLine number line ≡ shownCheck (answerOf found)
-checking-refused found number line k e f = ap₂ refusedLine e f ∙ check-refused (answerOf found) (refused-reply found k .2)

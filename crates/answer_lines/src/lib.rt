@@ -1,13 +1,11 @@
-// The lines that the two programs print of finishing's and of checking's answer.
-use checking::Checking;
+// The lines that the finishing program prints of finishing's answer.
 use finishing::Admission;
 use finishing::Outcome;
 use finishing::Run;
 ghost use mathlib.Core.Path.{_≡_};
 ghost use Rattle.slices.specs.Put.{put, behind};
 ghost use Rattle.finishing.specs.Answer.{replyOf, ranOf};
-ghost use Rattle.checking.specs.Answer.{answerOf as checkingAnswer};
-ghost use Rattle.answer_lines.specs.Shown.{ranLine, replyLine, shownCheck};
+ghost use Rattle.answer_lines.specs.Shown.{ranLine, replyLine};
 
 // The line of finishing's answer, put at the start of `out`; answered is its length. Where it does not fit, `out` stays and 0 is answered.
 pub fn print_finishing(admission: Admission, run: Run, area: &[u8], out: &mut [u8]) -> usize
@@ -37,20 +35,4 @@ pub fn print_run(run: Run, area: &[u8], out: &mut [u8]) -> usize
         Outcome::Spent => printing::print_line(b"spent", run.count, term, out),
         Outcome::NoRoom => printing::print_line(b"no room", run.count, term, out),
     }
-}
-
-// The line of checking's answer.
-pub fn print_checking(answer: Checking, out: &mut [u8]) -> usize
-    ensures { λ r. ⌜ (now (out .exit) ≡ put 0 (shownCheck (checkingAnswer answer)) (now (out .entry)))
-        × (r ≡ behind 0 (shownCheck (checkingAnswer answer)) (now (out .entry))) ⌝ }
-{
-    let Checking::Accepted(lines) = answer else {
-        return printing::print_numbers(
-            b"refused",
-            checking::number(answer),
-            checking::place(answer) as u64,
-            out,
-        );
-    };
-    printing::print_count(b"accepted", lines as u64, out)
 }

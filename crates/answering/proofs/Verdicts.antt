@@ -1,22 +1,15 @@
--- The checking program's line is that of checking's answer, and at most 24 bytes: the numbers that checking answers are small. Assumes
--- nothing.
+-- Every line of the checking program is at most 24 bytes: the numbers that checking answers are small. Assumes nothing.
 use Prim.Native.Nat.{ℕ, _≤_}
 use native.Mathlib.Omega.{arith}
-use mathlib.Core.Path.{_≡_, refl, ap}
+use mathlib.Core.Path.{_≡_, refl}
 use mathlib.Core.List.{List}
 use lib.ListN.{length}
 use Rattle.reading.specs.Reply.{Reply}
 use Rattle.derivation_files.specs.Checking.{checkingOf}
 use Rattle.derivation_files.proofs.Listed.{checking-refused}
 use Rattle.derivation_files.proofs.Files.{accepted-exactly}
-use Rattle.answer_lines.specs.Shown.{shownCheck}
 use Rattle.answering.specs.Program.{checkProgram}
 use Rattle.answering.proofs.Lengths.{Small, refusal-small, check-length}
-
--- what is printed is the line of checking's answer
-pub checked : (file : List ℕ) {reply : Reply ℕ} → reply ≡ checkingOf file → shownCheck reply ≡ checkProgram file
-unfolding checkProgram
-checked file e = ap shownCheck e
 
 small : (file : List ℕ) (reply : Reply ℕ) → checkingOf file ≡ reply → Small reply
 small file (Reply.refused number line) e = refusal-small (omega arith) (omega arith) (omega arith) (checking-refused file number line e)

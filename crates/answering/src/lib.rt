@@ -1,4 +1,4 @@
-// What the two programs print, as functions on bytes: no input and no output here.
+// What the finishing program prints, as a function on bytes: no input and no output here.
 use finish_line::Asked;
 ghost use mathlib.Core.Path.{_≡_};
 ghost use Prim.Native.Nat.{ℕ, min};
@@ -6,7 +6,6 @@ ghost use mathlib.Core.List.{_++_};
 ghost use lib.ListN.{length, drop};
 ghost use Rattle.slices.specs.Put.{put, behind};
 ghost use Rattle.answer_lines.specs.Shown.{shownRun};
-ghost use Rattle.answering.specs.Program.{checkProgram};
 ghost use Rattle.answering.specs.Answer.{finishedIn, areaIn, workIn, printedRun, termAfter, workAfter};
 
 // The finishing program's line for what its input asks for; `term` holds the term's bytes, and both buffers serve as areas.
@@ -21,14 +20,6 @@ pub fn answer_run(asked: Asked, term: &mut [u8], work: &mut [u8], out: &mut [u8]
         return printing::print_numbers(b"refused", finish_line::number(asked), 0, out);
     };
     run_request(fuel, area, length, term, work, out)
-}
-
-// The checking program's line for a file, put into `out` as `answer_run` does.
-pub fn answer_check(file: &[u8], out: &mut [u8]) -> usize
-    ensures { λ r. ⌜ (now (out .exit) ≡ put 0 (checkProgram (now (file .entry))) (now (out .entry)))
-        × (r ≡ behind 0 (checkProgram (now (file .entry))) (now (out .entry))) ⌝ }
-{
-    answer_lines::print_checking(checking::check_derivation(file), out)
 }
 
 // The run that a line of the right shape asks for.
