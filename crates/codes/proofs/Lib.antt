@@ -1,4 +1,3 @@
 -- That a C caller decodes what the operations answer.
-pub mod Refusals
 pub mod Decoding
 pub mod InC

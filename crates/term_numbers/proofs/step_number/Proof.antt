@@ -1,9 +1,9 @@
--- `codes::step_number` meets its contract: an answer has its number by definition, every other case is a refusal. Assumes nothing.
+-- `term_numbers::step_number` meets its contract: an answer has its number by definition, every other case is a refusal. Assumes nothing.
 use Rattle.codes.specs.Encoding.{stepNumber}
-use Rattle.codes.proofs.Refusals.{stepping-refusal}
+use Rattle.term_numbers.proofs.Refusals.{stepping-refusal}
 use borrow.Author.Needs.{needs}
-use Rattle.codes.proofs.step_number.Statement.{statement}
-use Rattle.codes.proofs.step_number.Tie as tie
+use Rattle.term_numbers.proofs.step_number.Statement.{statement}
+use Rattle.term_numbers.proofs.step_number.Tie as tie
 
 enum-known-answer : tie.Need-enum-known-answer
 enum-known-answer c = search needs

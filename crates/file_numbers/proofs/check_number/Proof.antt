@@ -1,9 +1,9 @@
--- `codes::check_number` meets its contract: an answer has its number by definition, every other case is a refusal. Assumes nothing.
+-- `file_numbers::check_number` meets its contract: an answer has its number by definition, every other case is a refusal. Assumes nothing.
 use Rattle.codes.specs.Encoding.{checkNumber}
-use Rattle.codes.proofs.Refusals.{checking-refusal}
+use Rattle.file_numbers.proofs.Refusals.{checking-refusal}
 use borrow.Author.Needs.{needs}
-use Rattle.codes.proofs.check_number.Statement.{statement}
-use Rattle.codes.proofs.check_number.Tie as tie
+use Rattle.file_numbers.proofs.check_number.Statement.{statement}
+use Rattle.file_numbers.proofs.check_number.Tie as tie
 
 enum-known-answer : tie.Need-enum-known-answer
 enum-known-answer c = search needs

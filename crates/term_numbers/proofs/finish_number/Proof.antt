@@ -1,9 +1,9 @@
--- `codes::finish_number` meets its contract: an answer has its number by definition, every other case is a refusal. Assumes nothing.
+-- `term_numbers::finish_number` meets its contract: an answer has its number by definition, every other case is a refusal. Assumes nothing.
 use Rattle.codes.specs.Encoding.{finishNumber}
-use Rattle.codes.proofs.Refusals.{finishing-refusal}
+use Rattle.term_numbers.proofs.Refusals.{finishing-refusal}
 use borrow.Author.Needs.{needs}
-use Rattle.codes.proofs.finish_number.Statement.{statement}
-use Rattle.codes.proofs.finish_number.Tie as tie
+use Rattle.term_numbers.proofs.finish_number.Statement.{statement}
+use Rattle.term_numbers.proofs.finish_number.Tie as tie
 
 enum-told : tie.Need-enum-told
 enum-told c = search needs

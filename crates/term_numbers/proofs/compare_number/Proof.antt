@@ -1,9 +1,9 @@
--- `codes::compare_number` meets its contract: an answer has its number by definition, every other case is a refusal. Assumes nothing.
+-- `term_numbers::compare_number` meets its contract: an answer has its number by definition, every other case is a refusal. Assumes nothing.
 use Rattle.codes.specs.Encoding.{compareNumber}
-use Rattle.codes.proofs.Refusals.{comparing-refusal}
+use Rattle.term_numbers.proofs.Refusals.{comparing-refusal}
 use borrow.Author.Needs.{needs}
-use Rattle.codes.proofs.compare_number.Statement.{statement}
-use Rattle.codes.proofs.compare_number.Tie as tie
+use Rattle.term_numbers.proofs.compare_number.Statement.{statement}
+use Rattle.term_numbers.proofs.compare_number.Tie as tie
 
 enum-told : tie.Need-enum-told
 enum-told c = search needs

@@ -1,9 +1,9 @@
--- `codes::match_number` meets its contract: an answer has its number by definition, every other case is a refusal. Assumes nothing.
+-- `file_numbers::match_number` meets its contract: an answer has its number by definition, every other case is a refusal. Assumes nothing.
 use Rattle.codes.specs.Encoding.{matchNumber}
-use Rattle.codes.proofs.Refusals.{matching-refusal}
+use Rattle.file_numbers.proofs.Refusals.{matching-refusal}
 use borrow.Author.Needs.{needs}
-use Rattle.codes.proofs.match_number.Statement.{statement}
-use Rattle.codes.proofs.match_number.Tie as tie
+use Rattle.file_numbers.proofs.match_number.Statement.{statement}
+use Rattle.file_numbers.proofs.match_number.Tie as tie
 
 enum-told : tie.Need-enum-told
 enum-told c = search needs

@@ -19,13 +19,6 @@ use Rattle.finishing.proofs.Admission.{the-type as Admission-type}
 use Rattle.comparing.specs.Answer as comparing
 use Rattle.comparing.specs.declared.Comparing.{Comparing}
 use Rattle.comparing.specs.declared.Comparing.the-variants as compare
-use Rattle.checking.specs.Answer as checking
-use Rattle.checking.specs.declared.Checking.{Checking}
-use Rattle.checking.specs.declared.Checking.the-variants as check
-use Rattle.checking.proofs.Checking.{the-type as Checking-type}
-use Rattle.matching.specs.Answer as matching
-use Rattle.matching.specs.declared.Matching.{Matching}
-use Rattle.matching.specs.declared.Matching.the-variants as match
 
 -- a refusal is what is passed on of it
 abbrev pub Refusal : {X : Type 0} → Reply X → Type 0
@@ -54,21 +47,5 @@ finishing-refusal admission.FuelTooHigh k = refl
 finishing-refusal (admission.Unread reading) k = refl
 finishing-refusal admission.Admitted k = absurd (miss (0 ∷ 1 ∷ 2 ∷ 3 ∷ 4 ∷ []) 5 tt k)
 
-pub checking-refusal :
-    (a : Checking) → OneOf (0 ∷ 1 ∷ 2 ∷ 3 ∷ 4 ∷ 5 ∷ 6 ∷ 7 ∷ 8 ∷ []) (tagOf Checking-type a) → Refusal (checking.answerOf a)
-checking-refusal check.FileTooLong k = refl
-checking-refusal check.FileEmpty k = refl
-checking-refusal check.NoLineEnd k = refl
-checking-refusal check.TooManyLines k = refl
-checking-refusal (check.NotSixFields line) k = refl
-checking-refusal (check.Malformed line) k = refl
-checking-refusal (check.UnknownRule line) k = refl
-checking-refusal (check.BadPremise line) k = refl
-checking-refusal (check.NoInstance line) k = refl
-checking-refusal (check.Accepted lines) k = absurd (miss (0 ∷ 1 ∷ 2 ∷ 3 ∷ 4 ∷ 5 ∷ 6 ∷ 7 ∷ 8 ∷ []) 9 tt k)
-
 pub comparing-refusal : {a : Comparing} {d : Admission} → a ≡ compare.Refused d → Refusal (comparing.answerOf a)
 comparing-refusal e = subst (λ (a : Comparing). Refusal (comparing.answerOf a)) (sym e) refl
-
-pub matching-refusal : {a : Matching} {d : Checking} → a ≡ match.Refused d → Refusal (matching.answerOf a)
-matching-refusal e = subst (λ (a : Matching). Refusal (matching.answerOf a)) (sym e) refl
