@@ -1,9 +1,9 @@
--- A case of an answer's enum that is no answer is a refusal, and is coded as its number and its place. Assumes nothing.
+-- A case of an answer's enum that is no answer is a refusal. Assumes nothing.
 use mathlib.Core.Path.{_≡_, refl, sym, subst}
 use mathlib.Core.List.{List, [], _∷_}
 use types.Run.{OneOf, miss}
 use denote.Enum.Declared.{tagOf}
-use Rattle.reading.specs.Reply.{Reply, passedOn}
+use Rattle.codes.proofs.Refusals.{Refusal}
 use Rattle.checking.specs.Answer as checking
 use Rattle.checking.specs.declared.Checking.{Checking}
 use Rattle.checking.specs.declared.Checking.the-variants as check
@@ -11,10 +11,6 @@ use Rattle.checking.proofs.Checking.{the-type as Checking-type}
 use Rattle.matching.specs.Answer as matching
 use Rattle.matching.specs.declared.Matching.{Matching}
 use Rattle.matching.specs.declared.Matching.the-variants as match
-
--- a refusal is what is passed on of it
-abbrev pub Refusal : {X : Type 0} → Reply X → Type 0
-Refusal reply = reply ≡ passedOn reply
 
 pub checking-refusal :
     (a : Checking) → OneOf (0 ∷ 1 ∷ 2 ∷ 3 ∷ 4 ∷ 5 ∷ 6 ∷ 7 ∷ 8 ∷ []) (tagOf Checking-type a) → Refusal (checking.answerOf a)

@@ -1,9 +1,9 @@
--- A case of an answer's enum that is no answer is a refusal, and is coded as its number and its place. Assumes nothing.
+-- A case of an answer's enum that is no answer is a refusal. Assumes nothing.
 use mathlib.Core.Path.{_≡_, refl, sym, subst}
 use mathlib.Core.List.{List, [], _∷_}
 use types.Run.{OneOf, miss}
 use denote.Enum.Declared.{tagOf}
-use Rattle.reading.specs.Reply.{Reply, passedOn}
+use Rattle.codes.proofs.Refusals.{Refusal}
 use Rattle.reading.specs.Answer as reading
 use Rattle.reading.specs.declared.Reading.{Reading}
 use Rattle.reading.specs.declared.Reading.the-variants.{Whole, NoLetter, NotWhole, Beyond}
@@ -19,10 +19,6 @@ use Rattle.finishing.proofs.Admission.{the-type as Admission-type}
 use Rattle.comparing.specs.Answer as comparing
 use Rattle.comparing.specs.declared.Comparing.{Comparing}
 use Rattle.comparing.specs.declared.Comparing.the-variants as compare
-
--- a refusal is what is passed on of it
-abbrev pub Refusal : {X : Type 0} → Reply X → Type 0
-Refusal reply = reply ≡ passedOn reply
 
 pub reading-refusal : (a : Reading) → OneOf (1 ∷ 2 ∷ 3 ∷ []) (tagOf Reading-type a) → Refusal (reading.answerOf a)
 reading-refusal (Whole size) k = absurd (miss (1 ∷ 2 ∷ 3 ∷ []) 0 tt k)

@@ -1,5 +1,7 @@
 -- `file_numbers::check_number` meets its contract: an answer has its number by definition, every other case is a refusal. Assumes nothing.
-use Rattle.codes.specs.Encoding.{checkNumber}
+use mathlib.Core.Path.{_∙_}
+use Rattle.codes.specs.Encoding.{checkNumber, checkParts}
+use Rattle.codes.proofs.Refusals.{coded-refusal}
 use Rattle.file_numbers.proofs.Refusals.{checking-refusal}
 use borrow.Author.Needs.{needs}
 use Rattle.file_numbers.proofs.check_number.Statement.{statement}
@@ -22,11 +24,13 @@ wide-requires c κs = search needs
 
 returns : tie.Need-returns
 unfolding checkNumber
-returns c = cc
+returns c = rw (c .before .before .answer .given .1) (c .narrow .ensures)
 
 returns-2 : tie.Need-returns-2
 unfolding checkNumber
-returns-2 c = cc (checking-refusal (c .before .before .before .before .args .answer) (c .before .before .before .match .keys2))
+returns-2 c =
+    c .wide .ensures
+    ∙ coded-refusal checkParts _ (checking-refusal (c .before .before .before .before .args .answer) (c .before .before .before .match .keys2)) (c .before .before .number .ensures) (c .before .place .ensures)
 
 pub check-number-spec : {M : Type 1} → statement M
 check-number-spec =

@@ -1,5 +1,8 @@
 -- `term_numbers::finish_number` meets its contract: an answer has its number by definition, every other case is a refusal. Assumes nothing.
-use Rattle.codes.specs.Encoding.{finishNumber}
+use mathlib.Core.Path.{_∙_, sym}
+use Rattle.codes.specs.Encoding.{finishNumber, runParts}
+use Rattle.finishing.specs.Answer.{ranOf}
+use Rattle.codes.proofs.Refusals.{coded-refusal}
 use Rattle.term_numbers.proofs.Refusals.{finishing-refusal}
 use borrow.Author.Needs.{needs}
 use Rattle.term_numbers.proofs.finish_number.Statement.{statement}
@@ -25,11 +28,13 @@ wide-requires c κs = search needs
 
 returns : tie.Need-returns
 unfolding finishNumber
-returns c = cc
+returns c = rw (c .before .before .enum-told .given .1, sym (c .before .outcome-code .ensures)) (c .narrow .ensures)
 
 returns-2 : tie.Need-returns-2
 unfolding finishNumber
-returns-2 c = cc (finishing-refusal (c .before .before .before .before .args .admission) (c .before .before .before .match .keys2))
+returns-2 c =
+    c .wide .ensures
+    ∙ coded-refusal (λ done. runParts (ranOf (c .before .before .before .before .args .run))) _ (finishing-refusal (c .before .before .before .before .args .admission) (c .before .before .before .match .keys2)) (c .before .before .number .ensures) (c .before .place .ensures)
 
 pub finish-number-spec : {M : Type 1} → statement M
 finish-number-spec =

@@ -1,5 +1,7 @@
 -- `term_numbers::read_number` meets its contract: an answer has its number by definition, every other case is a refusal. Assumes nothing.
-use Rattle.codes.specs.Encoding.{readNumber}
+use mathlib.Core.Path.{_∙_}
+use Rattle.codes.specs.Encoding.{readNumber, readParts}
+use Rattle.codes.proofs.Refusals.{coded-refusal}
 use Rattle.term_numbers.proofs.Refusals.{reading-refusal}
 use borrow.Author.Needs.{needs}
 use Rattle.term_numbers.proofs.read_number.Statement.{statement}
@@ -22,11 +24,13 @@ wide-requires-2 c κs = search needs
 
 returns : tie.Need-returns
 unfolding readNumber
-returns c = cc
+returns c = rw (c .before .before .answer .given .1) (c .wide .ensures)
 
 returns-2 : tie.Need-returns-2
 unfolding readNumber
-returns-2 c = cc (reading-refusal (c .before .before .before .before .args .answer) (c .before .before .before .match .keys2))
+returns-2 c =
+    c .wide2 .ensures
+    ∙ coded-refusal readParts _ (reading-refusal (c .before .before .before .before .args .answer) (c .before .before .before .match .keys2)) (c .before .before .number .ensures) (c .before .place .ensures)
 
 pub read-number-spec : {M : Type 1} → statement M
 read-number-spec =
