@@ -2,3 +2,4 @@
 pub mod Refusals
 pub mod Decoding
 pub mod InC
+pub mod Coded
