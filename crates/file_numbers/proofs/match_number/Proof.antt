@@ -1,9 +1,11 @@
--- `codes::match_number` meets its contract: an answer has its number by definition, every other case is a refusal. Assumes nothing.
-use Rattle.codes.specs.Encoding.{matchNumber}
-use Rattle.codes.proofs.Refusals.{matching-refusal}
+-- `file_numbers::match_number` meets its contract: an answer has its number by definition, every other case is a refusal. Assumes nothing.
+use mathlib.Core.Path.{_∙_}
+use Rattle.codes.specs.Encoding.{matchNumber, matchParts}
+use Rattle.codes.proofs.Refusals.{coded-refusal}
+use Rattle.file_numbers.proofs.Refusals.{matching-refusal}
 use borrow.Author.Needs.{needs}
-use Rattle.codes.proofs.match_number.Statement.{statement}
-use Rattle.codes.proofs.match_number.Tie as tie
+use Rattle.file_numbers.proofs.match_number.Statement.{statement}
+use Rattle.file_numbers.proofs.match_number.Tie as tie
 
 enum-told : tie.Need-enum-told
 enum-told c = search needs
@@ -31,15 +33,17 @@ wide-requires c κs = search needs
 
 returns : tie.Need-returns
 unfolding matchNumber
-returns c = cc
+returns c = rw (c .before .enum-told .given .1) (c .narrow .ensures)
 
 returns-2 : tie.Need-returns-2
 unfolding matchNumber
-returns-2 c = cc
+returns-2 c = rw (c .before .enum-told2 .given .1) (c .narrow2 .ensures)
 
 returns-3 : tie.Need-returns-3
 unfolding matchNumber
-returns-3 c = cc (matching-refusal (c .before .before .before .enum-told3 .given .1))
+returns-3 c =
+    c .wide .ensures
+    ∙ coded-refusal matchParts _ (matching-refusal (c .before .before .before .enum-told3 .given .1)) (c .before .before .number .ensures) (c .before .place .ensures)
 
 pub match-number-spec : {M : Type 1} → statement M
 match-number-spec =

@@ -1,9 +1,11 @@
--- `codes::step_number` meets its contract: an answer has its number by definition, every other case is a refusal. Assumes nothing.
-use Rattle.codes.specs.Encoding.{stepNumber}
-use Rattle.codes.proofs.Refusals.{stepping-refusal}
+-- `term_numbers::step_number` meets its contract: an answer has its number by definition, every other case is a refusal. Assumes nothing.
+use mathlib.Core.Path.{_∙_}
+use Rattle.codes.specs.Encoding.{stepNumber, stepParts}
+use Rattle.codes.proofs.Refusals.{coded-refusal}
+use Rattle.term_numbers.proofs.Refusals.{stepping-refusal}
 use borrow.Author.Needs.{needs}
-use Rattle.codes.proofs.step_number.Statement.{statement}
-use Rattle.codes.proofs.step_number.Tie as tie
+use Rattle.term_numbers.proofs.step_number.Statement.{statement}
+use Rattle.term_numbers.proofs.step_number.Tie as tie
 
 enum-known-answer : tie.Need-enum-known-answer
 enum-known-answer c = search needs
@@ -37,19 +39,21 @@ wide-requires c κs = search needs
 
 returns : tie.Need-returns
 unfolding stepNumber
-returns c = cc
+returns c = rw (c .before .before .answer .given .1) (c .narrow .ensures)
 
 returns-2 : tie.Need-returns-2
 unfolding stepNumber
-returns-2 c = cc
+returns-2 c = rw (c .before .before .answer2 .given .1) (c .narrow2 .ensures)
 
 returns-3 : tie.Need-returns-3
 unfolding stepNumber
-returns-3 c = cc
+returns-3 c = rw (c .before .before .answer3 .given .1) (c .narrow3 .ensures)
 
 returns-4 : tie.Need-returns-4
 unfolding stepNumber
-returns-4 c = cc (stepping-refusal (c .before .before .before .before .args .answer) (c .before .before .before .match .keys4))
+returns-4 c =
+    c .wide .ensures
+    ∙ coded-refusal stepParts _ (stepping-refusal (c .before .before .before .before .args .answer) (c .before .before .before .match .keys4)) (c .before .before .number .ensures) (c .before .place .ensures)
 
 pub step-number-spec : {M : Type 1} → statement M
 step-number-spec =

@@ -1,9 +1,11 @@
--- `codes::compare_number` meets its contract: an answer has its number by definition, every other case is a refusal. Assumes nothing.
-use Rattle.codes.specs.Encoding.{compareNumber}
-use Rattle.codes.proofs.Refusals.{comparing-refusal}
+-- `term_numbers::compare_number` meets its contract: an answer has its number by definition, every other case is a refusal. Assumes nothing.
+use mathlib.Core.Path.{_∙_}
+use Rattle.codes.specs.Encoding.{compareNumber, compareParts}
+use Rattle.codes.proofs.Refusals.{coded-refusal}
+use Rattle.term_numbers.proofs.Refusals.{comparing-refusal}
 use borrow.Author.Needs.{needs}
-use Rattle.codes.proofs.compare_number.Statement.{statement}
-use Rattle.codes.proofs.compare_number.Tie as tie
+use Rattle.term_numbers.proofs.compare_number.Statement.{statement}
+use Rattle.term_numbers.proofs.compare_number.Tie as tie
 
 enum-told : tie.Need-enum-told
 enum-told c = search needs
@@ -37,19 +39,21 @@ wide-requires c κs = search needs
 
 returns : tie.Need-returns
 unfolding compareNumber
-returns c = cc
+returns c = rw (c .before .enum-told .given .1) (c .narrow .ensures)
 
 returns-2 : tie.Need-returns-2
 unfolding compareNumber
-returns-2 c = cc
+returns-2 c = rw (c .before .enum-told2 .given .1) (c .narrow2 .ensures)
 
 returns-3 : tie.Need-returns-3
 unfolding compareNumber
-returns-3 c = cc
+returns-3 c = rw (c .before .enum-told3 .given .1) (c .narrow3 .ensures)
 
 returns-4 : tie.Need-returns-4
 unfolding compareNumber
-returns-4 c = cc (comparing-refusal (c .before .before .before .enum-told4 .given .1))
+returns-4 c =
+    c .wide .ensures
+    ∙ coded-refusal compareParts _ (comparing-refusal (c .before .before .before .enum-told4 .given .1)) (c .before .before .number .ensures) (c .before .place .ensures)
 
 pub compare-number-spec : {M : Type 1} → statement M
 compare-number-spec =

@@ -1,0 +1,29 @@
+-- A case of an answer's enum that is no answer is a refusal. Assumes nothing.
+use mathlib.Core.Path.{_≡_, refl, sym, subst}
+use mathlib.Core.List.{List, [], _∷_}
+use types.Run.{OneOf, miss}
+use denote.Enum.Declared.{tagOf}
+use Rattle.codes.proofs.Refusals.{Refusal}
+use Rattle.checking.specs.Answer as checking
+use Rattle.checking.specs.declared.Checking.{Checking}
+use Rattle.checking.specs.declared.Checking.the-variants as check
+use Rattle.checking.proofs.Checking.{the-type as Checking-type}
+use Rattle.matching.specs.Answer as matching
+use Rattle.matching.specs.declared.Matching.{Matching}
+use Rattle.matching.specs.declared.Matching.the-variants as match
+
+pub checking-refusal :
+    (a : Checking) → OneOf (0 ∷ 1 ∷ 2 ∷ 3 ∷ 4 ∷ 5 ∷ 6 ∷ 7 ∷ 8 ∷ []) (tagOf Checking-type a) → Refusal (checking.answerOf a)
+checking-refusal check.FileTooLong k = refl
+checking-refusal check.FileEmpty k = refl
+checking-refusal check.NoLineEnd k = refl
+checking-refusal check.TooManyLines k = refl
+checking-refusal (check.NotSixFields line) k = refl
+checking-refusal (check.Malformed line) k = refl
+checking-refusal (check.UnknownRule line) k = refl
+checking-refusal (check.BadPremise line) k = refl
+checking-refusal (check.NoInstance line) k = refl
+checking-refusal (check.Accepted lines) k = absurd (miss (0 ∷ 1 ∷ 2 ∷ 3 ∷ 4 ∷ 5 ∷ 6 ∷ 7 ∷ 8 ∷ []) 9 tt k)
+
+pub matching-refusal : {a : Matching} {d : Checking} → a ≡ match.Refused d → Refusal (matching.answerOf a)
+matching-refusal e = subst (λ (a : Matching). Refusal (matching.answerOf a)) (sym e) refl
