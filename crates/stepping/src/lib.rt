@@ -4,16 +4,13 @@ use reading::Reading;
 use redexes::redex;
 use rewriting::growth;
 use rewriting::rewrite_at;
-use writing::write;
+use writing::write_back;
 ghost use mathlib.Core.Path.{_≡_};
-ghost use mathlib.Core.List.{List};
-ghost use Prim.Native.Nat.{ℕ, _≤_};
-ghost use lib.ListN.{length, replicate};
-ghost use Rattle.calculus.specs.Term.{Term, text};
+ghost use Prim.Native.Nat.{_≤_};
+ghost use lib.ListN.{length};
+ghost use Rattle.calculus.specs.Term.{Term};
 ghost use Rattle.calculus.specs.Order.{next};
 ghost use Rattle.reading.specs.Reply.{numberIn, placeIn};
-ghost use Rattle.slices.specs.Wrote.{Wrote};
-ghost use Rattle.stepping.specs.Areas.{holding};
 ghost use Rattle.stepping.specs.Held.{Holds};
 ghost use Rattle.stepping.specs.Stepping.{After, stepNext, steppingOf};
 ghost use Rattle.stepping.specs.Answer.{answerOf};
@@ -66,16 +63,6 @@ pub fn place(answer: Stepping) -> usize
     }
 }
 
-// Moves the new term, the first `size` bytes of the work area, to the term area, with zeros behind it and in the work area.
-fn put_back(area: &mut [u8], size: usize, work: &mut [u8])
-    ensures { λ _. ⌜ ((t : Term) (old : List ℕ) → Wrote 0 size (text t) old (now (work .entry)) → size ≤ length (now (area .entry))
-        → now (area .exit) ≡ holding t (now (area .entry))) ⌝ }
-    ensures { λ _. ⌜ now (work .exit) ≡ replicate (length (now (work .entry))) 0 ⌝ }
-{
-    filling::append(work, 0, size, area, 0);
-    clear(area, size, work);
-}
-
 // One step of the term in the first `len` bytes, or what keeps it from one.
 fn advance(area: &mut [u8], len: usize, work: &mut [u8]) -> Stepping
     requires { ⌜ (len ≤ length (now area)) × (length (now area) ≤ length (now work)) ⌝ }
@@ -92,8 +79,7 @@ fn advance(area: &mut [u8], len: usize, work: &mut [u8]) -> Stepping
         clear(area, len, work);
         return Stepping::NoRoom(len);
     }
-    let size = write(&area[..len], w, work);
-    put_back(area, size, work);
+    let size = write_back(area, len, w, work);
     Stepping::Done(w.rule, size)
 }
 
