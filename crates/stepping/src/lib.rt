@@ -42,25 +42,18 @@ pub fn number(answer: Stepping) -> u64
         Stepping::WorkTooShort => 2,
         Stepping::LengthTooLong => 3,
         Stepping::Unread(reading) => reading::number(reading),
-        Stepping::Normal(_) => 0,
-        Stepping::NoRoom(_) => 0,
-        Stepping::Done(_, _) => 0,
+        Stepping::Normal(_) | Stepping::NoRoom(_) | Stepping::Done(_, _) => 0,
     }
 }
 
-// The place of a refusal, 0 of an answer.
+// The place of a refusal, 0 of an answer and of what is refused without a place.
 pub fn place(answer: Stepping) -> usize
     ensures { λ r. ⌜ r ≡ placeIn (answerOf answer) ⌝ }
 {
-    match answer {
-        Stepping::AreaTooLong => 0,
-        Stepping::WorkTooShort => 0,
-        Stepping::LengthTooLong => 0,
-        Stepping::Unread(reading) => reading::place(reading),
-        Stepping::Normal(_) => 0,
-        Stepping::NoRoom(_) => 0,
-        Stepping::Done(_, _) => 0,
-    }
+    let Stepping::Unread(reading) = answer else {
+        return 0;
+    };
+    reading::place(reading)
 }
 
 // One step of the term in the first `len` bytes, or what keeps it from one.
