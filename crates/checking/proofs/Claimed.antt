@@ -9,7 +9,8 @@ use Rattle.fields.specs.Fields.{sixAt, hasSix, Texts, textsAt}
 use Rattle.fields.specs.declared.Judged.{Judged}
 use Rattle.fields.proofs.Cutting.{firstLine, six-found}
 use Rattle.checking.specs.Answer.{answerOf}
-use Rattle.checking.specs.Claim.{lastLine, firstThree, noTexts, claimTexts, nowhere, refusalOf}
+use Rattle.derivation_files.specs.Claim.{lastLine}
+use Rattle.checking.specs.Claim.{firstThree, noTexts, claimTexts, nowhere, refusalOf}
 use Rattle.checking.specs.declared.Checked.{Checked}
 use Rattle.checking.specs.declared.Checking.{Checking}
 use mathlib.Core.Bool.{true}

@@ -15,7 +15,8 @@ use Rattle.checking.specs.declared.Checking.the-variants.{Accepted}
 use Rattle.checking.proofs.Checking.{the-type}
 use Rattle.checking.proofs.Refused.{refused-reply}
 use Rattle.fields.specs.Fields.{Texts}
-use Rattle.checking.specs.Claim.{lastLine, claimTexts}
+use Rattle.derivation_files.specs.Claim.{lastLine}
+use Rattle.checking.specs.Claim.{claimTexts}
 use Rattle.matching.specs.Matching.{sameClaim, sameTexts, afterBoth, matchingOf}
 
 -- ---- two files
