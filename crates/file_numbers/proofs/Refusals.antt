@@ -13,17 +13,13 @@ use Rattle.matching.specs.declared.Matching.{Matching}
 use Rattle.matching.specs.declared.Matching.the-variants as match
 
 pub checking-refusal :
-    (a : Checking) → OneOf (0 ∷ 1 ∷ 2 ∷ 3 ∷ 4 ∷ 5 ∷ 6 ∷ 7 ∷ 8 ∷ []) (tagOf Checking-type a) → Refusal (checking.answerOf a)
+    (a : Checking) → OneOf (0 ∷ 1 ∷ 2 ∷ 3 ∷ 4 ∷ []) (tagOf Checking-type a) → Refusal (checking.answerOf a)
 checking-refusal check.FileTooLong k = refl
 checking-refusal check.FileEmpty k = refl
 checking-refusal check.NoLineEnd k = refl
 checking-refusal check.TooManyLines k = refl
-checking-refusal (check.NotSixFields line) k = refl
-checking-refusal (check.Malformed line) k = refl
-checking-refusal (check.UnknownRule line) k = refl
-checking-refusal (check.BadPremise line) k = refl
-checking-refusal (check.NoInstance line) k = refl
-checking-refusal (check.Accepted lines) k = absurd (miss (0 ∷ 1 ∷ 2 ∷ 3 ∷ 4 ∷ 5 ∷ 6 ∷ 7 ∷ 8 ∷ []) 9 tt k)
+checking-refusal (check.BadLine fault line) k = refl
+checking-refusal (check.Accepted lines) k = absurd (miss (0 ∷ 1 ∷ 2 ∷ 3 ∷ 4 ∷ []) 5 tt k)
 
 pub matching-refusal : {a : Matching} {d : Checking} → a ≡ match.Refused d → Refusal (matching.answerOf a)
 matching-refusal e = subst (λ (a : Matching). Refusal (matching.answerOf a)) (sym e) refl

@@ -21,7 +21,7 @@ check-refused (Reply.answered lines) e = let z : _≡_ {A = ℕ} 0 1 = cc in abs
 
 -- the line of checking's refusal
 pub checking-refused :
-    (found : Checking) (number line : ℕ) → OneOf (0 ∷ 1 ∷ 2 ∷ 3 ∷ 4 ∷ 5 ∷ 6 ∷ 7 ∷ 8 ∷ []) (tagOf checking-type found) →
+    (found : Checking) (number line : ℕ) → OneOf (0 ∷ 1 ∷ 2 ∷ 3 ∷ 4 ∷ []) (tagOf checking-type found) →
     number ≡ numberIn (answerOf found) → line ≡ placeIn (answerOf found) → refusedLine number line ≡ shownCheck (answerOf found)
 checking-refused found number line k e f = ap₂ refusedLine e f ∙ check-refused (answerOf found) (refused-reply found k .2)
 

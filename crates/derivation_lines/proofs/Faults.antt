@@ -1,15 +1,13 @@
--- The answers of `line::check_line`, test by test, and of what it calls. Assumes nothing.
-use Prim.Native.Nat.{ℕ, zero, suc, _+_, _<_, min}
-use native.Mathlib.Omega.{arith}
+-- The fault that `check_line` answers, test by test, and the laws of what it calls. Assumes nothing.
+use Prim.Native.Nat.{ℕ, zero, suc}
 use mathlib.Core.Path.{_≡_, refl, sym, _∙_, ap, ap₂}
-use mathlib.Core.Bool.{Bool, true, false, _&&_}
+use mathlib.Core.Bool.{Bool, true, false}
 use mathlib.Core.List.{List, [], _∷_}
 use mathlib.Core.Option.{Option, none, some}
 use lib.Dec.{eqb}
 use lib.ListN.{length}
-use Rattle.reading.specs.Reply.{Reply, numberIn}
+use Rattle.reading.specs.Reply.{numberIn}
 use Rattle.reading.specs.Reading.{atLetter, readingFrom, readingOf}
-use Rattle.calculus.specs.Limits.{lineLimit}
 use Rattle.calculus.specs.Letter.{Letter, letterOf, owed}
 use Rattle.calculus.specs.Term.{Term}
 use Rattle.calculus.specs.Parse.{Item, one, two, push, items, single, termOf}
@@ -19,81 +17,62 @@ use Rattle.fields.specs.declared.SixFields.{SixFields}
 use Rattle.premises.specs.declared.Cited.{Cited}
 use Rattle.rules.specs.declared.Rule.{Rule}
 use Rattle.fields.specs.Fields.{judgedAt, hasSix, textsAt}
-use Rattle.premises.specs.Cited.{citedOf, citedFit, startOr}
+use Rattle.premises.specs.Cited.{citedFit, startOr}
 use Rattle.rules.specs.Rules.{isKnown, countOf}
 use Rattle.instances.specs.TextInstance.{instanceText}
-use Rattle.checking.specs.TextChecking.{wellFormed, instanceAt, unless, replyOf, ruleIn, firstIn, secondIn, lineReply}
+use Rattle.derivation_lines.specs.declared.Fault.{Fault}
+use Rattle.derivation_lines.specs.declared.Fault.the-variants.{
+  NotSixFields,
+  Malformed,
+  UnknownRule,
+  BadPremise,
+  NoInstance,
+  Follows,
+}
+use Rattle.derivation_lines.specs.TextLine.{wellFormed, instanceAt, unless, ruleFault, ruleIn, firstIn, secondIn, lineFault}
 
 -- ---- the tests of a line, in their order
 
-abbrev pub tests : (a b c d e : Bool) → ℕ → Reply ℕ
-tests a b c d e line = unless a 14 line (unless b 15 line (unless c 16 line (unless d 17 line (unless e 18 line (Reply.answered line)))))
+-- the two tests by the rule have those outcomes
+pub ruled :
+    (file : List ℕ) (rule : Rule) (own : Judged) (first second : Cited) (fits inst : Bool) → fits ≡ citedFit (countOf rule) first second →
+    inst ≡ instanceAt file rule own first second →
+    unless fits BadPremise (unless inst NoInstance Follows) ≡ ruleFault file rule own first second
+ruled file rule own first second fits inst p q = ap₂ (λ (t u : Bool). unless t BadPremise (unless u NoInstance Follows)) p q
 
--- where the first tests held, the reply is what the others say
-held : (a b c d e : Bool) (line : ℕ) → a ≡ true → b ≡ true → c ≡ true → d ≡ true → tests a b c d e line ≡ tests true true true true e line
-held a b c d e line p q r s = ap₂ (λ (t u : Bool). tests t u c d e line) p q ∙ ap₂ (λ (t u : Bool). tests true true t u e line) r s
+-- the premises were tested by the rule's count
+pub by-count :
+    (rule : Rule) (first second : Cited) {count : ℕ} {fits : Bool} → count ≡ countOf rule → fits ≡ citedFit count first second →
+    fits ≡ citedFit (countOf rule) first second
+by-count rule first second p q = q ∙ ap (λ (m : ℕ). citedFit m first second) p
 
-module _
-    (file starts : List ℕ)
-    (n : ℕ)
-    (line : SixFields)
-    (rule : Rule)
-    (first second : Cited)
-    (named : rule ≡ ruleIn file line)
-    (one : first ≡ firstIn file starts n line)
-    (two : second ≡ secondIn file starts n line) where
-  -- what the line comes to by the rule and the lines that were found
-  same-reply : replyOf file n line rule first second ≡ lineReply file starts n line
-  unfolding lineReply
-  same-reply =
-      ap (λ (r : Rule). replyOf file n line r first second) named
-      ∙ ap₂ (λ (x y : Cited). replyOf file n line (ruleIn file line) x y) one two
+module _ (file starts : List ℕ) (n : ℕ) (line : SixFields) where
+  abbrev own : Bool
+  own = wellFormed (textsAt (line .own) file)
 
-  abbrev six : Bool
-  six = hasSix file line
+  abbrev rest : Fault
+  rest = ruleFault file (ruleIn file line) (line .own) (firstIn file starts n line) (secondIn file starts n line)
 
-  abbrev formed : Bool
-  formed = wellFormed (textsAt (line .own) file)
+  -- the rule that was found is the one named
+  pub by-name : {rule : Rule} {known : Bool} → rule ≡ ruleIn file line → known ≡ isKnown rule → known ≡ isKnown (ruleIn file line)
+  by-name p q = q ∙ ap (λ (r : Rule). isKnown r) p
 
-  abbrev fits : Bool
-  fits = citedFit (countOf rule) first second
+  -- the rule and the lines that were found are those of the definition
+  pub cited :
+      {rule : Rule} {first second : Cited} {fault : Fault} → rule ≡ ruleIn file line → first ≡ firstIn file starts n line →
+      second ≡ secondIn file starts n line → fault ≡ ruleFault file rule (line .own) first second → fault ≡ rest
+  cited {first = first} {second = second} named one two e =
+      e ∙ ap (λ (r : Rule). ruleFault file r (line .own) first second) named
+      ∙ ap₂ (λ (x y : Cited). ruleFault file (ruleIn file line) (line .own) x y) one two
 
-  abbrev inst : Bool
-  inst = instanceAt file rule (line .own) first second
-
-  pub not-six : six ≡ false → Reply.refused 14 (n + 1) ≡ lineReply file starts n line
-  not-six p = sym (ap (λ (t : Bool). tests t formed (isKnown rule) fits inst (n + 1)) p) ∙ same-reply
-
-  pub malformed : six ≡ true → formed ≡ false → Reply.refused 15 (n + 1) ≡ lineReply file starts n line
-  malformed p q = sym (ap₂ (λ (t u : Bool). tests t u (isKnown rule) fits inst (n + 1)) p q) ∙ same-reply
-
-  pub unknown : six ≡ true → formed ≡ true → isKnown rule ≡ false → Reply.refused 16 (n + 1) ≡ lineReply file starts n line
-  unknown p q r =
-      sym (ap₂ (λ (t u : Bool). tests t u (isKnown rule) fits inst (n + 1)) p q ∙ ap (λ (t : Bool). tests true true t fits inst (n + 1)) r)
-      ∙ same-reply
-
-  pub bad-premise :
-      six ≡ true → formed ≡ true → isKnown rule ≡ true → fits ≡ false → Reply.refused 17 (n + 1) ≡ lineReply file starts n line
-  bad-premise p q r s =
-      sym (ap₂ (λ (t u : Bool). tests t u (isKnown rule) fits inst (n + 1)) p q
-      ∙ ap₂ (λ (t u : Bool). tests true true t u inst (n + 1)) r s) ∙ same-reply
-
-  pub no-instance :
-      six ≡ true → formed ≡ true → isKnown rule ≡ true → fits ≡ true → inst ≡ false →
-      Reply.refused 18 (n + 1) ≡ lineReply file starts n line
-  no-instance p q r s t =
-      sym (held six formed (isKnown rule) fits inst (n + 1) p q r s ∙ ap (λ (u : Bool). tests true true true true u (n + 1)) t) ∙ same-reply
-
-  pub good :
-      six ≡ true → formed ≡ true → isKnown rule ≡ true → fits ≡ true → inst ≡ true → Reply.answered (n + 1) ≡ lineReply file starts n line
-  good p q r s t =
-      sym (held six formed (isKnown rule) fits inst (n + 1) p q r s ∙ ap (λ (u : Bool). tests true true true true u (n + 1)) t) ∙ same-reply
-
--- ---- premises
-
--- where fewer lines than the limit went before, a field may name any of them
-pub within : (n : ℕ) → n < lineLimit → min n lineLimit ≡ n
-within n h = omega arith
+  -- the first three tests have those outcomes
+  pub tested :
+      (six formed known : Bool) → six ≡ hasSix file line → formed ≡ own → known ≡ isKnown (ruleIn file line) →
+      unless six NotSixFields (unless formed Malformed (unless known UnknownRule rest)) ≡ lineFault file starts n line
+  unfolding lineFault
+  tested six formed known p q r =
+      ap₂ (λ (t u : Bool). unless t NotSixFields (unless u Malformed (unless known UnknownRule rest))) p q
+      ∙ ap (λ (t : Bool). unless (hasSix file line) NotSixFields (unless own Malformed (unless t UnknownRule rest))) r
 
 -- ---- a term
 

@@ -1,4 +1,4 @@
--- `line::well_formed` meets its contract: its tests are those of the definition. Assumes nothing.
+-- `derivation_lines::well_formed` meets its contract: its tests are those of the definition. Assumes nothing.
 use Prim.Native.Nat.{ℕ}
 use mathlib.Core.Path.{sym, _∙_, ap}
 use mathlib.Core.List.{List}
@@ -8,8 +8,8 @@ use Rattle.types.specs.Parse.{typeOf, contextOf}
 use Rattle.types.specs.Tests.{isSome}
 use Rattle.fields.proofs.Tests.{three-made, three-missed}
 use borrow.Author.Needs.{needs}
-use Rattle.checking.proofs.line.well_formed.Statement.{statement}
-use Rattle.checking.proofs.line.well_formed.Tie as tie
+use Rattle.derivation_lines.proofs.well_formed.Statement.{statement}
+use Rattle.derivation_lines.proofs.well_formed.Tie as tie
 
 bytes-of-requires : tie.Need-bytes-of-requires
 bytes-of-requires c κs = search needs

@@ -1,6 +1,6 @@
--- What a line comes to by its texts is what is found of it by the definition, where the starts are those of the earlier lines: carried
+-- What is wrong with a line by its texts is what is found of it by the definition, where the starts are those of the earlier lines: carried
 -- by the tests on texts (`TextInstance`) and by what a premise field names. Assumes nothing.
-use Prim.Native.Nat.{ℕ, zero, suc, _+_, _-_, _≤_, _<_}
+use Prim.Native.Nat.{ℕ, zero, suc, _-_, _≤_, _<_, min}
 use native.Mathlib.Omega.{arith}
 use native.Mathlib.Decide.{decLe}
 use mathlib.Core.Path.{_≡_, refl, sym, _∙_, ap, ap₂, subst, subst₂}
@@ -10,7 +10,7 @@ use mathlib.Core.Option.{Option, none, some}
 use borrow.Author.Tests.{le-leb, lt-leb, lt-ltb}
 use lib.Dec.{leb, ltb}
 use lib.ListN.{length, getD, drop}
-use Rattle.reading.specs.Reply.{Reply}
+use Rattle.calculus.specs.Limits.{lineLimit}
 use Rattle.calculus.specs.Term.{Term, text}
 use Rattle.calculus.specs.Types.{Context, Ty, contextText, tyText}
 use Rattle.calculus.specs.Typing.{Judgement, Name}
@@ -29,7 +29,17 @@ use Rattle.fields.specs.Fields.{judgedAt, sixAt, hasSix, Texts, textsAt}
 use Rattle.premises.specs.Cited.{lineIf, citedOf, isDashed, isLine, citedFit, startOr}
 use Rattle.rules.specs.Rules.{ruleOf, isKnown, countOf}
 use Rattle.instances.specs.TextInstance.{instanceText}
-use Rattle.checking.specs.TextChecking.{wellFormed, instanceAt, unless, sixReply, ruleIn, firstIn, secondIn, lineReply}
+use Rattle.derivation_lines.specs.declared.Fault.{Fault}
+use Rattle.derivation_lines.specs.declared.Fault.the-variants.{
+  NotSixFields,
+  Malformed,
+  UnknownRule,
+  BadPremise,
+  NoInstance,
+  Follows,
+}
+use Rattle.derivation_lines.specs.Number.{numberOf}
+use Rattle.derivation_lines.specs.TextLine.{wellFormed, instanceAt, unless, sixFault, ruleIn, firstIn, secondIn, lineFault}
 use Rattle.fields.specs.declared.SixFields.{SixFields}
 use Rattle.premises.specs.declared.Cited.{Cited}
 use Rattle.premises.specs.declared.Cited.the-variants.{Line, Nothing}
@@ -41,10 +51,11 @@ abbrev pub Table : (file starts : List ℕ) → List Judgement → Type 0
 Table file starts earlier =
     (m : ℕ) (i : Judgement) → earlierLine earlier (suc m) ≡ some i → textsAt (judgedAt file (getD starts m 0)) file ≡ textsOf i
 
--- `Verdict own line reply found`: the reply says of the line what is found of it, and its texts are those of the judgement found
-pub data Verdict (own : Texts) (line : ℕ) : Reply ℕ → Found → Type 0 where
-  good : (j : Judgement) → own ≡ textsOf j → Verdict own line (Reply.answered line) (Found.good j)
-  bad : (number : ℕ) → Verdict own line (Reply.refused number line) (Found.bad number)
+-- `Verdict own fault found`: the fault has the number that is found of the line, and where there is none the line's texts are those of the
+-- judgement found
+pub data Verdict (own : Texts) : Fault → Found → Type 0 where
+  good : (j : Judgement) → own ≡ textsOf j → Verdict own Follows (Found.good j)
+  bad : (fault : Fault) → (numberOf fault ≡ 0 → ⊥) → Verdict own fault (Found.bad (numberOf fault))
 
 -- ---- what a premise field names
 
@@ -112,28 +123,28 @@ module _
 
 -- ---- the tests of a line, from the last to the first
 
-module _ (own : Texts) (line : ℕ) (name : Name) (j : Judgement) (same : own ≡ textsOf j) where
-  judged : (b : Bool) → Verdict own line (unless b 18 line (Reply.answered line)) (foundIf b j)
+module _ (own : Texts) (name : Name) (j : Judgement) (same : own ≡ textsOf j) where
+  judged : (b : Bool) → Verdict own (unless b NoInstance Follows) (foundIf b j)
   judged true = Verdict.good j same
-  judged false = Verdict.bad 18
+  judged false = Verdict.bad NoInstance (λ z. omega arith)
 
   -- where the premises fit, the instance decides
   fit :
       (fits inst test : Bool) → fits ≡ true → inst ≡ test →
-      Verdict own line (unless fits 17 line (unless inst 18 line (Reply.answered line))) (foundIf test j)
+      Verdict own (unless fits BadPremise (unless inst NoInstance Follows)) (foundIf test j)
   fit fits inst test p q =
-      subst₂ (λ (f i : Bool). Verdict own line (unless f 17 line (unless i 18 line (Reply.answered line))) (foundIf test j)) (sym p) (sym q)
+      subst₂ (λ (f i : Bool). Verdict own (unless f BadPremise (unless i NoInstance Follows)) (foundIf test j)) (sym p) (sym q)
       (judged test)
 
   unfit :
-      (fits inst : Bool) → fits ≡ false → Verdict own line (unless fits 17 line (unless inst 18 line (Reply.answered line))) (Found.bad 17)
+      (fits inst : Bool) → fits ≡ false → Verdict own (unless fits BadPremise (unless inst NoInstance Follows)) (Found.bad 17)
   unfit fits inst p =
-      subst (λ (f : Bool). Verdict own line (unless f 17 line (unless inst 18 line (Reply.answered line))) (Found.bad 17)) (sym p)
-      (Verdict.bad 17)
+      subst (λ (f : Bool). Verdict own (unless f BadPremise (unless inst NoInstance Follows)) (Found.bad 17)) (sym p)
+      (Verdict.bad BadPremise (λ z. omega arith))
 
   by-none :
       (fits inst first second : Bool) → fits ≡ (first && second) → inst ≡ isInstance name Premises.none j →
-      Verdict own line (unless fits 17 line (unless inst 18 line (Reply.answered line))) (foundInstance name j (premisesNone first second))
+      Verdict own (unless fits BadPremise (unless inst NoInstance Follows)) (foundInstance name j (premisesNone first second))
   by-none fits inst true true p q = fit fits inst (isInstance name Premises.none j) p q
   by-none fits inst true false p q = unfit fits inst p
   by-none fits inst false second p q = unfit fits inst p
@@ -143,7 +154,7 @@ module _ (own : Texts) (line : ℕ) (name : Name) (j : Judgement) (same : own �
         (fits inst : Bool) {cited : Cited} {o : Option Judgement} (second : Bool) → Cites file other cited o →
         fits ≡ (isLine cited && second) →
         ((i : Judgement) → textsAt (judgedAt file (startOr other cited)) file ≡ textsOf i → inst ≡ isInstance name (Premises.one i) j) →
-        Verdict own line (unless fits 17 line (unless inst 18 line (Reply.answered line))) (foundInstance name j (premisesOne o second))
+        Verdict own (unless fits BadPremise (unless inst NoInstance Follows)) (foundInstance name j (premisesOne o second))
     by-one fits inst second (Cites.nothing e) p q = unfit fits inst (p ∙ ap (λ (t : Bool). t && second) e)
     by-one fits inst true (Cites.line i e t) p q =
         fit fits inst (isInstance name (Premises.one i) j) (p ∙ ap (λ (t : Bool). t && true) e) (q i t)
@@ -155,7 +166,7 @@ module _ (own : Texts) (line : ℕ) (name : Name) (j : Judgement) (same : own �
         ((i k : Judgement) → textsAt (judgedAt file (startOr other cited)) file ≡ textsOf i →
         textsAt (judgedAt file (startOr other cited′)) file ≡ textsOf k →
         inst ≡ isInstance name (Premises.two i k) j) →
-        Verdict own line (unless fits 17 line (unless inst 18 line (Reply.answered line))) (foundInstance name j (premisesTwo o o′))
+        Verdict own (unless fits BadPremise (unless inst NoInstance Follows)) (foundInstance name j (premisesTwo o o′))
     by-two fits inst {cited′ = cited′} (Cites.nothing e) second p q = unfit fits inst (p ∙ ap (λ (t : Bool). t && isLine cited′) e)
     by-two fits inst (Cites.line i e t) (Cites.nothing d) p q = unfit fits inst (p ∙ ap₂ _&&_ e d)
     by-two fits inst (Cites.line i e t) (Cites.line k d u) p q =
@@ -167,7 +178,7 @@ module _
     (file starts : List ℕ)
     (n : ℕ)
     (earlier : List Judgement)
-    (count : length earlier ≡ n)
+    (count : length earlier ≡ min n lineLimit)
     (table : Table file starts earlier)
     (six : SixFields) where
   -- the texts of the line, what its premise fields name, and the texts of the lines named
@@ -187,22 +198,24 @@ module _
   twoTexts = textsAt (judgedAt file (startOr (length file) two)) file
 
   cites-one : Cites file (length file) one (namedPremise earlier (premiseOf (textAt (six .first) file)))
-  cites-one = cites file starts n earlier count table (length file) (premiseOf (textAt (six .first) file))
+  cites-one = cites file starts (min n lineLimit) earlier count table (length file) (premiseOf (textAt (six .first) file))
 
   cites-two : Cites file (length file) two (namedPremise earlier (premiseOf (textAt (six .second) file)))
-  cites-two = cites file starts n earlier count table (length file) (premiseOf (textAt (six .second) file))
+  cites-two = cites file starts (min n lineLimit) earlier count table (length file) (premiseOf (textAt (six .second) file))
 
   dashes :
       (isDashed one && isDashed two)
       ≡ (noPremise (premiseOf (textAt (six .first) file)) && noPremise (premiseOf (textAt (six .second) file)))
-  dashes = ap₂ _&&_ (dashed starts n (premiseOf (textAt (six .first) file))) (dashed starts n (premiseOf (textAt (six .second) file)))
+  dashes =
+      ap₂ _&&_ (dashed starts (min n lineLimit) (premiseOf (textAt (six .first) file)))
+      (dashed starts (min n lineLimit) (premiseOf (textAt (six .second) file)))
 
   -- the rule is named: 17 or 18, or the line is good
   abbrev ByRule : Name → Judgement → Type 0
   ByRule name j =
-      Verdict mine (n + 1)
-      (unless (citedFit (countOf (ruleOf (some name))) one two) 17 (n + 1)
-      (unless (instanceAt file (ruleOf (some name)) (six .own) one two) 18 (n + 1) (Reply.answered (n + 1))))
+      Verdict mine
+      (unless (citedFit (countOf (ruleOf (some name))) one two) BadPremise
+      (unless (instanceAt file (ruleOf (some name)) (six .own) one two) NoInstance Follows))
       (foundInstance name j
       (premisesOf (premiseCount name) earlier (premiseOf (textAt (six .first) file)) (premiseOf (textAt (six .second) file))))
 
@@ -228,31 +241,32 @@ module _
         (name : Name) →
         ((i k : Judgement) → oneTexts ≡ textsOf i → twoTexts ≡ textsOf k →
         instanceAt file (ruleOf (some name)) (six .own) one two ≡ isInstance name (Premises.two i k) j) →
-        Verdict mine (n + 1)
-        (unless (isLine one && isLine two) 17 (n + 1)
-        (unless (instanceAt file (ruleOf (some name)) (six .own) one two) 18 (n + 1) (Reply.answered (n + 1))))
+        Verdict mine
+        (unless (isLine one && isLine two) BadPremise
+        (unless (instanceAt file (ruleOf (some name)) (six .own) one two) NoInstance Follows))
         (foundInstance name j
         (premisesTwo (namedPremise earlier (premiseOf (textAt (six .first) file)))
         (namedPremise earlier (premiseOf (textAt (six .second) file)))))
     both name named =
-        by-two mine (n + 1) name j same file (length file) (isLine one && isLine two)
+        by-two mine name j same file (length file) (isLine one && isLine two)
         (instanceAt file (ruleOf (some name)) (six .own) one two) cites-one cites-two refl named
 
     by-rule : (name : Name) → ByRule name j
     by-rule Name.J =
-        by-none mine (n + 1) Name.J j same (isDashed one && isDashed two) (instanceAt file (ruleOf (some Name.J)) (six .own) one two)
+        by-none mine Name.J j same (isDashed one && isDashed two) (instanceAt file (ruleOf (some Name.J)) (six .own) one two)
         (noPremise (premiseOf (textAt (six .first) file))) (noPremise (premiseOf (textAt (six .second) file))) dashes
         (none-named Name.J refl)
     by-rule Name.R =
-        by-one mine (n + 1) Name.R j same file (length file) (isLine one && isDashed two)
+        by-one mine Name.R j same file (length file) (isLine one && isDashed two)
         (instanceAt file (ruleOf (some Name.R)) (six .own) one two)
         (noPremise (premiseOf (textAt (six .second) file))) cites-one
-        (ap (λ (t : Bool). isLine one && t) (dashed starts n (premiseOf (textAt (six .second) file)))) (one-named Name.R refl)
+        (ap (λ (t : Bool). isLine one && t) (dashed starts (min n lineLimit) (premiseOf (textAt (six .second) file))))
+        (one-named Name.R refl)
     by-rule Name.H = both Name.H (two-named Name.H refl)
     by-rule Name.A = both Name.A (two-named Name.A refl)
     by-rule Name.f = both Name.f (two-named Name.f refl)
     by-rule Name.I =
-        by-none mine (n + 1) Name.I j same (isDashed one && isDashed two) (instanceAt file (ruleOf (some Name.I)) (six .own) one two)
+        by-none mine Name.I j same (isDashed one && isDashed two) (instanceAt file (ruleOf (some Name.I)) (six .own) one two)
         (noPremise (premiseOf (textAt (six .first) file))) (noPremise (premiseOf (textAt (six .second) file))) dashes
         (none-named Name.I refl)
     by-rule Name.B = both Name.B (two-named Name.B refl)
@@ -261,12 +275,12 @@ module _
   -- the fields are well formed: 16 to 18, or the line is good
   by-name :
       (j : Judgement) → mine ≡ textsOf j → (o : Option Name) →
-      Verdict mine (n + 1)
-      (unless (isKnown (ruleOf o)) 16 (n + 1)
-      (unless (citedFit (countOf (ruleOf o)) one two) 17 (n + 1)
-      (unless (instanceAt file (ruleOf o) (six .own) one two) 18 (n + 1) (Reply.answered (n + 1)))))
+      Verdict mine
+      (unless (isKnown (ruleOf o)) UnknownRule
+      (unless (citedFit (countOf (ruleOf o)) one two) BadPremise
+      (unless (instanceAt file (ruleOf o) (six .own) one two) NoInstance Follows)))
       (foundName earlier j o (textAt (six .first) file) (textAt (six .second) file))
-  by-name j same none = Verdict.bad 16
+  by-name j same none = Verdict.bad UnknownRule (λ z. omega arith)
   by-name j same (some Name.J) = by-rule j same Name.J
   by-name j same (some Name.R) = by-rule j same Name.R
   by-name j same (some Name.H) = by-rule j same Name.H
@@ -280,15 +294,15 @@ module _
   by-fields :
       (G : Option Context) (t : Option Term) (W : Option Ty) → contextOf (mine .context) ≡ G → termOf (mine .term) ≡ t →
       typeOf (mine .type) ≡ W →
-      Verdict mine (n + 1)
-      (unless (isSome G && isSome t && isSome W) 15 (n + 1)
-      (unless (isKnown (ruleIn file six)) 16 (n + 1)
-      (unless (citedFit (countOf (ruleIn file six)) one two) 17 (n + 1)
-      (unless (instanceAt file (ruleIn file six) (six .own) one two) 18 (n + 1) (Reply.answered (n + 1))))))
+      Verdict mine
+      (unless (isSome G && isSome t && isSome W) Malformed
+      (unless (isKnown (ruleIn file six)) UnknownRule
+      (unless (citedFit (countOf (ruleIn file six)) one two) BadPremise
+      (unless (instanceAt file (ruleIn file six) (six .own) one two) NoInstance Follows))))
       (foundJudgement earlier (judgementIf G t W) (textAt (six .rule) file) (textAt (six .first) file) (textAt (six .second) file))
-  by-fields none t W p q r = Verdict.bad 15
-  by-fields (some G) none W p q r = Verdict.bad 15
-  by-fields (some G) (some t) none p q r = Verdict.bad 15
+  by-fields none t W p q r = Verdict.bad Malformed (λ z. omega arith)
+  by-fields (some G) none W p q r = Verdict.bad Malformed (λ z. omega arith)
+  by-fields (some G) (some t) none p q r = Verdict.bad Malformed (λ z. omega arith)
   by-fields (some G) (some t) (some W) p q r = by-name (Judgement.judge G t W) texts (nameOf (textAt (six .rule) file))
     where
       texts : mine ≡ textsOf (Judgement.judge G t W)
@@ -309,26 +323,33 @@ not-six earlier (a ∷ b ∷ c ∷ d ∷ e ∷ []) n = refl
 not-six earlier (a ∷ b ∷ c ∷ d ∷ e ∷ f ∷ []) n = absurd (n refl)
 not-six earlier (a ∷ b ∷ c ∷ d ∷ e ∷ f ∷ g ∷ more) n = refl
 
--- the line that begins at an index comes to what is found of it
+-- where fewer lines than the limit went before, a field may name any of them
+within : (n : ℕ) → n < lineLimit → min n lineLimit ≡ n
+within n h = omega arith
+
+-- what is wrong with the line that begins at an index is what is found of it
 pub line-verdict :
-    (file starts : List ℕ) (n : ℕ) (earlier : List Judgement) → length earlier ≡ n → Table file starts earlier → (at : ℕ) →
-    Verdict (textsAt (judgedAt file at) file) (n + 1) (lineReply file starts n (sixAt file at))
+    (file starts : List ℕ) (n : ℕ) (earlier : List Judgement) → length earlier ≡ n → n < lineLimit → Table file starts earlier → (at : ℕ) →
+    Verdict (textsAt (judgedAt file at) file) (lineFault file starts n (sixAt file at))
     (foundFields earlier (fields (firstLine (drop at file))))
-unfolding lineReply sixAt
-line-verdict file starts n earlier count table at = go (hasSix file (sixAt file at)) refl
+unfolding lineFault sixAt
+line-verdict file starts n earlier same few table at = go (hasSix file (sixAt file at)) refl
   where
-    onwards : Reply ℕ
+    count : length earlier ≡ min n lineLimit
+    count = same ∙ sym (within n few)
+
+    onwards : Fault
     onwards =
-        sixReply file n (sixAt file at) (ruleIn file (sixAt file at)) (firstIn file starts n (sixAt file at))
+        sixFault file (sixAt file at) (ruleIn file (sixAt file at)) (firstIn file starts n (sixAt file at))
         (secondIn file starts n (sixAt file at))
 
     go :
         (t : Bool) → hasSix file (sixAt file at) ≡ t →
-        Verdict (textsAt (judgedAt file at) file) (n + 1) (lineReply file starts n (sixAt file at))
+        Verdict (textsAt (judgedAt file at) file) (lineFault file starts n (sixAt file at))
         (foundFields earlier (fields (firstLine (drop at file))))
     go true e =
         subst₂
-        (λ (t : Bool) (fs : List (List ℕ)). Verdict (textsAt (judgedAt file at) file) (n + 1) (unless t 14 (n + 1) onwards)
+        (λ (t : Bool) (fs : List (List ℕ)). Verdict (textsAt (judgedAt file at) file) (unless t NotSixFields onwards)
         (foundFields earlier fs))
         (sym e) (sym (six-found file at e .0))
         (by-fields file starts n earlier count table (sixAt file at)
@@ -337,5 +358,20 @@ line-verdict file starts n earlier count table at = go (hasSix file (sixAt file 
         (typeOf (mine file starts n earlier count table (sixAt file at) .type)) refl refl refl)
     go false e =
         subst₂
-        (λ (t : Bool) (found : Found). Verdict (textsAt (judgedAt file at) file) (n + 1) (unless t 14 (n + 1) onwards) found)
-        (sym e) (sym (not-six earlier (fields (firstLine (drop at file))) (six-missed file at e))) (Verdict.bad 14)
+        (λ (t : Bool) (found : Found). Verdict (textsAt (judgedAt file at) file) (unless t NotSixFields onwards) found)
+        (sym e) (sym (not-six earlier (fields (firstLine (drop at file))) (six-missed file at e)))
+        (Verdict.bad NotSixFields (λ z. omega arith))
+
+-- a line that follows has six fields
+pub follows-six :
+    (file starts : List ℕ) (n : ℕ) (six : SixFields) → numberOf (lineFault file starts n six) ≡ 0 → hasSix file six ≡ true
+unfolding lineFault
+follows-six file starts n six = go (hasSix file six)
+  where
+    go :
+        (t : Bool) →
+        numberOf
+        (unless t NotSixFields (sixFault file six (ruleIn file six) (firstIn file starts n six) (secondIn file starts n six))) ≡ 0 →
+        t ≡ true
+    go true e = refl
+    go false e = absurd (omega arith)

@@ -1,8 +1,8 @@
--- `line::follows` meets its contract: the texts tested are those of the lines named. Assumes nothing.
-use Rattle.checking.proofs.Replied.{instance-named}
+-- `derivation_lines::follows` meets its contract: the texts tested are those of the lines named. Assumes nothing.
+use Rattle.derivation_lines.proofs.Faults.{instance-named}
 use borrow.Author.Needs.{needs}
-use Rattle.checking.proofs.line.follows.Statement.{statement}
-use Rattle.checking.proofs.line.follows.Tie as tie
+use Rattle.derivation_lines.proofs.follows.Statement.{statement}
+use Rattle.derivation_lines.proofs.follows.Tie as tie
 
 start-or-requires : tie.Need-start-or-requires
 start-or-requires c κs = search needs

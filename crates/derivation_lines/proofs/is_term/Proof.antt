@@ -1,12 +1,12 @@
--- `line::is_term` meets its contract: reading has no number exactly where the bytes are a term. Assumes nothing.
+-- `derivation_lines::is_term` meets its contract: reading has no number exactly where the bytes are a term. Assumes nothing.
 use Prim.Native.Nat.{ℕ}
 use mathlib.Core.Path.{_∙_, ap}
 use lib.Dec.{eqb}
 use Rattle.reading.specs.Reply.{Reply, numberIn}
-use Rattle.checking.proofs.Replied.{reading-term}
+use Rattle.derivation_lines.proofs.Faults.{reading-term}
 use borrow.Author.Needs.{needs}
-use Rattle.checking.proofs.line.is_term.Statement.{statement}
-use Rattle.checking.proofs.line.is_term.Tie as tie
+use Rattle.derivation_lines.proofs.is_term.Statement.{statement}
+use Rattle.derivation_lines.proofs.is_term.Tie as tie
 
 read-requires : tie.Need-read-requires
 read-requires c κs = search needs
