@@ -11,11 +11,12 @@ use Rattle.printing.specs.Printed.{lineOf}
 use Rattle.printing.proofs.Writing.{Appends}
 use Rattle.reading.specs.Reply.{Reply, numberIn, placeIn}
 use Rattle.derivation_files.specs.Checking.{checkingOf}
+use Rattle.admission.specs.Answer.{replyOf}
+use Rattle.admission.specs.declared.Admission.{Admission}
+use Rattle.admission.proofs.Admission.{the-type as admission-type}
+use Rattle.admission.proofs.Answers.{reply-refused, reply-admitted}
 use Rattle.finishing.specs.Finishing.{Ran}
-use Rattle.finishing.specs.Answer.{replyOf, outcomeOf, ranOf}
-use Rattle.finishing.specs.declared.Admission.{Admission}
-use Rattle.finishing.proofs.Admission.{the-type as admission-type}
-use Rattle.finishing.proofs.Ending.{reply-refused, reply-admitted}
+use Rattle.finishing.specs.Answer.{outcomeOf, ranOf}
 use Rattle.checking.specs.Answer.{answerOf}
 use Rattle.checking.specs.declared.Checking.{Checking}
 use Rattle.checking.proofs.Checking.{the-type as checking-type}

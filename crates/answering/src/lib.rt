@@ -1,7 +1,7 @@
 // What the two programs print, as functions on bytes: no input and no output here.
+use admission::Admission;
 use checking::Checking;
 use finish_line::Asked;
-use finishing::Admission;
 use finishing::Outcome;
 use finishing::Run;
 ghost use mathlib.Core.Path.{_≡_};
@@ -9,7 +9,8 @@ ghost use Prim.Native.Nat.{ℕ, min};
 ghost use mathlib.Core.List.{_++_};
 ghost use lib.ListN.{length, drop};
 ghost use Rattle.slices.specs.Put.{put, behind};
-ghost use Rattle.finishing.specs.Answer.{replyOf, ranOf};
+ghost use Rattle.admission.specs.Answer.{replyOf};
+ghost use Rattle.finishing.specs.Answer.{ranOf};
 ghost use Rattle.checking.specs.Answer.{answerOf as checkingAnswer};
 ghost use Rattle.answering.specs.Shown.{ranLine, replyLine, shownRun, shownCheck};
 ghost use Rattle.answering.specs.Program.{checkProgram};
@@ -67,8 +68,8 @@ fn print_finishing(admission: Admission, run: Run, area: &[u8], out: &mut [u8]) 
     let Admission::Admitted = admission else {
         return printing::print_numbers(
             b"refused",
-            finishing::number(admission),
-            finishing::place(admission) as u64,
+            admission::number(admission),
+            admission::place(admission) as u64,
             out,
         );
     };

@@ -1,7 +1,7 @@
 // The reply of each operation as one number, for callers in C.
+use admission::Admission;
 use checking::Checking;
 use comparing::Comparing;
-use finishing::Admission;
 use finishing::Outcome;
 use finishing::Run;
 use matching::Matching;
@@ -10,7 +10,8 @@ use stepping::Stepping;
 ghost use mathlib.Core.Path.{_≡_};
 ghost use Rattle.reading.specs.Answer.{answerOf as readingAnswer};
 ghost use Rattle.stepping.specs.Answer.{answerOf as steppingAnswer};
-ghost use Rattle.finishing.specs.Answer.{replyOf, outcomeOf, ranOf};
+ghost use Rattle.admission.specs.Answer.{replyOf};
+ghost use Rattle.finishing.specs.Answer.{outcomeOf, ranOf};
 ghost use Rattle.comparing.specs.Answer.{answerOf as comparingAnswer};
 ghost use Rattle.checking.specs.Answer.{answerOf as checkingAnswer};
 ghost use Rattle.matching.specs.Answer.{answerOf as matchingAnswer};
@@ -71,7 +72,7 @@ pub fn finish_number(admission: Admission, run: Run) -> u64
     let outcome = run.outcome;
     match admission {
         Admission::Admitted => narrow(outcome_code(outcome), run.count as usize, run.size),
-        _ => wide(finishing::number(admission), finishing::place(admission)),
+        _ => wide(admission::number(admission), admission::place(admission)),
     }
 }
 

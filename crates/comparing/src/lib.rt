@@ -1,5 +1,5 @@
 // Comparing: whether two terms have the same result.
-use finishing::Admission;
+use admission::Admission;
 use finishing::Outcome;
 use finishing::Run;
 ghost use mathlib.Core.Path.{_≡_};
@@ -27,7 +27,7 @@ pub fn number(answer: Comparing) -> u64
     ensures { λ r. ⌜ r ≡ numberIn (answerOf answer) ⌝ }
 {
     match answer {
-        Comparing::Refused(admission) => finishing::number(admission),
+        Comparing::Refused(admission) => admission::number(admission),
         Comparing::Same => 0,
         Comparing::Different => 0,
         Comparing::Undecided => 0,
@@ -39,7 +39,7 @@ pub fn place(answer: Comparing) -> usize
     ensures { λ r. ⌜ r ≡ placeIn (answerOf answer) ⌝ }
 {
     match answer {
-        Comparing::Refused(admission) => finishing::place(admission),
+        Comparing::Refused(admission) => admission::place(admission),
         Comparing::Same => 0,
         Comparing::Different => 0,
         Comparing::Undecided => 0,
@@ -77,11 +77,11 @@ pub fn compare(
     ensures { λ r. ⌜ After.after (answerOf r) (now (first .exit)) (now (second .exit)) (now (work .exit)) ≡ comparingOf (now (first .entry)) «first_len» (now (second .entry)) «second_len» (now (work .entry)) fuel ⌝ }
     ensures turning { λ r. ⌜ SameIfTurned (answerOf r) (now (first .entry)) «first_len» (now (second .entry)) «second_len» (now (work .entry)) fuel ⌝ }
 {
-    let admission = finishing::admit(first, first_len, work, fuel);
+    let admission = admission::admit(first, first_len, work, fuel);
     let Admission::Admitted = admission else {
         return Comparing::Refused(admission);
     };
-    let other = finishing::admit(second, second_len, work, fuel);
+    let other = admission::admit(second, second_len, work, fuel);
     let Admission::Admitted = other else {
         return Comparing::Refused(other);
     };

@@ -1,6 +1,7 @@
 -- `comparing::compare` meets its contract: each of its three ways out is a law of `Ending`. Assumes nothing.
 use borrow.Author.Needs.{needs}
-use Rattle.finishing.specs.Answer.{replyOf, outcomeOf}
+use Rattle.admission.specs.Answer.{replyOf}
+use Rattle.finishing.specs.Answer.{outcomeOf}
 use Rattle.comparing.specs.Answer.{answerOf}
 use Rattle.comparing.proofs.Ending.{after-first-refused, after-second-refused, after-both}
 use Rattle.comparing.proofs.compare.Statement.{statement}
