@@ -118,7 +118,7 @@ pub fn finish(area: &mut [u8], len: usize, work: &mut [u8], fuel: u64) -> Finish
     };
     let run = run_term(area, len, work, fuel);
     let size = run.size;
-    slices::zero_from(area, size);
-    slices::zero_from(work, 0);
+    filling::zero_from(area, size);
+    filling::zero_from(work, 0);
     Finishing { admission, run }
 }

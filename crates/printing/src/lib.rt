@@ -65,8 +65,8 @@ pub fn append_field(field: &[u8], mark: u8, out: &mut [u8], at: usize) -> usize
     if out.len() - at <= field.len() {
         return at;
     }
-    let end = slices::append(field, 0, field.len(), out, at);
-    slices::append_byte(mark, out, end)
+    let end = filling::append(field, 0, field.len(), out, at);
+    filling::append_byte(mark, out, end)
 }
 
 // Writes a number and the mark behind it, as `append_field` does.
@@ -81,5 +81,5 @@ pub fn append_number(number: u64, mark: u8, out: &mut [u8], at: usize) -> usize
         return at;
     }
     let last = decimals::append_decimal(number, out, at);
-    slices::append_byte(mark, out, last)
+    filling::append_byte(mark, out, last)
 }

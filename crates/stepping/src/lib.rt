@@ -1,13 +1,14 @@
 // Stepping: one step of the term in a lent area.
+use filling::clear;
 use reading::Reading;
 use redexes::redex;
 use rewriting::growth;
 use rewriting::rewrite_at;
 use writing::write;
 ghost use mathlib.Core.Path.{_≡_};
-ghost use mathlib.Core.List.{List, _++_};
-ghost use Prim.Native.Nat.{ℕ, _-_, _≤_};
-ghost use lib.ListN.{length, take, replicate};
+ghost use mathlib.Core.List.{List};
+ghost use Prim.Native.Nat.{ℕ, _≤_};
+ghost use lib.ListN.{length, replicate};
 ghost use Rattle.calculus.specs.Term.{Term, text};
 ghost use Rattle.calculus.specs.Order.{next};
 ghost use Rattle.reading.specs.Reply.{numberIn, placeIn};
@@ -65,22 +66,13 @@ pub fn place(answer: Stepping) -> usize
     }
 }
 
-// Zeros behind the term, which takes the first `size` bytes, and in the whole work area.
-fn clear(area: &mut [u8], size: usize, work: &mut [u8])
-    ensures { λ _. ⌜ now (area .exit) ≡ take size (now (area .entry)) ++ replicate (length (now (area .entry)) - size) 0 ⌝ }
-    ensures { λ _. ⌜ now (work .exit) ≡ replicate (length (now (work .entry))) 0 ⌝ }
-{
-    slices::zero_from(area, size);
-    slices::zero_from(work, 0);
-}
-
 // Moves the new term, the first `size` bytes of the work area, to the term area, with zeros behind it and in the work area.
 fn put_back(area: &mut [u8], size: usize, work: &mut [u8])
     ensures { λ _. ⌜ ((t : Term) (old : List ℕ) → Wrote 0 size (text t) old (now (work .entry)) → size ≤ length (now (area .entry))
         → now (area .exit) ≡ holding t (now (area .entry))) ⌝ }
     ensures { λ _. ⌜ now (work .exit) ≡ replicate (length (now (work .entry))) 0 ⌝ }
 {
-    slices::append(work, 0, size, area, 0);
+    filling::append(work, 0, size, area, 0);
     clear(area, size, work);
 }
 

@@ -1,8 +1,8 @@
 // The writer: the text that a rewrite makes, piece by piece.
+use filling::append;
+use filling::append_byte;
 use rewriting::NO_LETTER;
 use rewriting::Rewrite;
-use slices::append;
-use slices::append_byte;
 ghost use mathlib.Core.Path.{_≡_};
 ghost use Rattle.slices.specs.Put.{put, behind};
 ghost use Rattle.rewriting.specs.Text.{letterText, piecesOf};

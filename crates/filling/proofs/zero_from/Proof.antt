@@ -1,4 +1,4 @@
--- `slices::zero_from` meets its contract. The loop's invariant: `dst` is what it was with the first i - at of the zeros pasted in from
+-- `filling::zero_from` meets its contract. The loop's invariant: `dst` is what it was with the first i - at of the zeros pasted in from
 -- `at`.
 -- A turn is `paste-turn`. The measure is what is left of `dst`. Assumes nothing.
 use mathlib.Core.Path.{_≡_, refl, sym, ap, _∙_}
@@ -8,9 +8,9 @@ use native.Mathlib.Nat.{sub-self}
 use native.Mathlib.Omega.{arith}
 use lib.ListN.{length, take, drop, replicate, length-set, length-replicate, getD-replicate, drop-of-length-le}
 use lib.Seq.{paste, paste-zero, take-all}
 use Rattle.slices.proofs.Put.{paste-turn}
-use Rattle.slices.proofs.zero_from.Statement.{statement}
-use Rattle.slices.proofs.zero_from.Tie as tie
+use Rattle.filling.proofs.zero_from.Statement.{statement}
+use Rattle.filling.proofs.zero_from.Tie as tie
 
 -- as many zeros as stand in d from index `at` on
 abbrev zeros : List ℕ → ℕ → List ℕ

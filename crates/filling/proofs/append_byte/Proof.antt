@@ -1,11 +1,11 @@
--- `slices::append_byte` meets its contract: a `put` of one byte is a store. Assumes nothing.
+-- `filling::append_byte` meets its contract: a `put` of one byte is a store. Assumes nothing.
 use mathlib.Core.Path.{sym}
 use mathlib.Core.List.{[], _∷_}
 use borrow.Author.Needs.{needs}
 use native.Mathlib.Omega.{arith}
 use Rattle.slices.proofs.Put.{put-byte, put-short, behind-fits, behind-short}
-use Rattle.slices.proofs.append_byte.Statement.{statement}
-use Rattle.slices.proofs.append_byte.Tie as tie
+use Rattle.filling.proofs.append_byte.Statement.{statement}
+use Rattle.filling.proofs.append_byte.Tie as tie
 
 slice-write-dst : tie.Need-slice-write-dst
 slice-write-dst c = search needs

@@ -1,13 +1,13 @@
--- `slices::copy_in` meets its contract. The loop's invariant: `dst` is what it was with the first i bytes of `piece` pasted in from `at`.
+-- `filling::copy_in` meets its contract. The loop's invariant: `dst` is what it was with the first i bytes of `piece` pasted in from `at`.
 -- A turn is `paste-turn`, and the whole paste is a `put`. The measure is what is left of `piece`. Assumes nothing.
 use mathlib.Core.Path.{_≡_, refl, ap, _∙_}
 use Prim.Native.Nat.{_+_, _≤_, _-_}
 use native.Mathlib.Omega.{arith}
 use lib.ListN.{length, getD, length-set}
 use lib.Seq.{paste, paste-zero}
 use Rattle.slices.proofs.Put.{paste-turn, paste-put}
-use Rattle.slices.proofs.copy_in.Statement.{statement}
-use Rattle.slices.proofs.copy_in.Tie as tie
+use Rattle.filling.proofs.copy_in.Statement.{statement}
+use Rattle.filling.proofs.copy_in.Tie as tie
 
 abbrev Inv-loop : tie.InvT-loop
 Inv-loop piece dst₀ at i₀ dst i = (i ≤ length piece) × (dst ≡ paste dst₀ at piece i) × (length dst ≡ length dst₀)

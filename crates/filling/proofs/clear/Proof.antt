@@ -1,11 +1,11 @@
--- `stepping::clear` meets its contract: two calls of `zero_from`. Assumes nothing.
+-- `filling::clear` meets its contract: two calls of `zero_from`. Assumes nothing.
 use mathlib.Core.Path.{_∙_, ap}
 use Prim.Native.Nat.{ℕ}
 use native.Mathlib.Nat.{sub-zero}
 use borrow.Author.Needs.{needs}
 use lib.ListN.{length, replicate}
-use Rattle.stepping.proofs.clear.Statement.{statement}
-use Rattle.stepping.proofs.clear.Tie as tie
+use Rattle.filling.proofs.clear.Statement.{statement}
+use Rattle.filling.proofs.clear.Tie as tie
 
 zero-from-requires : tie.Need-zero-from-requires
 zero-from-requires c κs = search needs

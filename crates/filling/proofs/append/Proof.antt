@@ -1,4 +1,4 @@
--- `slices::append` meets its contract: the tests are those of `put` and `behind`, `cut` gives the piece and `copy_in` puts it. Assumes
+-- `filling::append` meets its contract: the tests are those of `put` and `behind`, `cut` gives the piece and `copy_in` puts it. Assumes
 -- nothing.
 use mathlib.Core.Path.{sym, ap, _∙_}
 use mathlib.Core.List.{List}
@@ -6,11 +6,11 @@ use Prim.Native.Nat.{ℕ, _+_}
 use borrow.Author.Needs.{needs}
 use native.Mathlib.Omega.{arith}
 use lib.ListN.{length}
 use Rattle.slices.specs.Part.{part}
 use Rattle.slices.specs.Put.{put}
 use Rattle.slices.proofs.Put.{put-short, behind-fits, behind-short}
-use Rattle.slices.proofs.append.Statement.{statement}
-use Rattle.slices.proofs.append.Tie as tie
+use Rattle.filling.proofs.append.Statement.{statement}
+use Rattle.filling.proofs.append.Tie as tie
 
 cut-requires : tie.Need-cut-requires
 cut-requires c κs = search needs
