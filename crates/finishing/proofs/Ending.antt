@@ -1,6 +1,5 @@
 -- From what was admitted, reached and cleared to the record and the areas: each way out of `finish` as one law. Assumes nothing.
 use Prim.Native.Nat.{ℕ, _-_, _≤_}
-use native.Mathlib.Nat.{sub-zero}
 use native.Mathlib.Omega.{arith}
 use mathlib.Core.Path.{_≡_, sym, _∙_, ap, ap₂}
 use mathlib.Core.List.{List, [], _∷_, _++_}
@@ -44,7 +43,7 @@ module _ (area : List ℕ) (len : ℕ) (work : List ℕ) (fuel : ℕ) (a : Admis
         (o : Outcome) (made size′ : ℕ) (area₁ work₁ area₂ work₂ : List ℕ) →
         ((t : Term) → Holds area len t → Reaches t (run fuel (length area) t) (Ran.ran o made size′) area₁) →
         length area₁ ≡ length area → length work₁ ≡ length work →
-        area₂ ≡ take size′ area₁ ++ replicate (length area₁ - size′) 0 → work₂ ≡ take 0 work₁ ++ replicate (length work₁ - 0) 0 →
+        area₂ ≡ take size′ area₁ ++ replicate (length area₁ - size′) 0 → work₂ ≡ replicate (length work₁) 0 →
         (After.after (replyOf a) (Ran.ran o made size′) area₂ work₂ ≡ finishingOf area len work fuel) × (made ≤ fuel)
     unfolding finishingOf
     after-run o made size′ area₁ work₁ area₂ work₂ reach long wide z w =
@@ -59,7 +58,7 @@ module _ (area : List ℕ) (len : ℕ) (work : List ℕ) (fuel : ℕ) (a : Admis
         z
         ∙ ap₂ (λ (l : List ℕ) (n : ℕ). l ++ replicate (n - size′) 0) front long
         ∙ ap (λ (n : ℕ). text end ++ replicate (length area - n) 0) sized in
-        let clear : work₂ ≡ cleared work = w ∙ ap (λ (n : ℕ). replicate n 0) (sub-zero (length work₁) ∙ wide) in (
+        let clear : work₂ ≡ cleared work = w ∙ ap (λ (n : ℕ). replicate n 0) wide in (
           ap₂ (λ (x : Reply Unit) (m : Ran). After.after x m area₂ work₂) (reply-admitted a k) (there .records)
               ∙ ap₂ (λ (x y : List ℕ). After.after (Reply.answered tt) (recordOf t r) x y) held clear
               ∙ sym (ap (λ (x : Reply Term). finishAdmitted x area work fuel) e),

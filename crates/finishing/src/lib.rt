@@ -118,7 +118,6 @@ pub fn finish(area: &mut [u8], len: usize, work: &mut [u8], fuel: u64) -> Finish
     };
     let run = run_term(area, len, work, fuel);
     let size = run.size;
-    filling::zero_from(area, size);
-    filling::zero_from(work, 0);
+    filling::clear(area, size, work);
     Finishing { admission, run }
 }
