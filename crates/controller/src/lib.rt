@@ -55,7 +55,7 @@ pub extern "C" fn controller_compare(
     ensures { λ r. ⌜ (r, now (first .exit), now (second .exit), now (work .exit))
         ≡ codedCompare (comparingOf (now (first .entry)) «first_term» (now (second .entry)) «second_term» (now (work .entry)) fuel) ⌝ }
 {
-    codes::compare_number(comparing::compare(first, first_term, second, second_term, work, fuel))
+    codes::compare_number(comparison::compare(first, first_term, second, second_term, work, fuel))
 }
 
 // Whether each line of a derivation file follows.
