@@ -10,11 +10,12 @@ use Rattle.slices.proofs.Part.{part-front}
 use Rattle.printing.specs.Printed.{lineOf}
 use Rattle.columns.proofs.Appending.{Appends}
 use Rattle.reading.specs.Reply.{Reply, numberIn, placeIn}
+use Rattle.admission.specs.Answer.{replyOf}
+use Rattle.admission.specs.declared.Admission.{Admission}
+use Rattle.admission.proofs.Admission.{the-type as admission-type}
+use Rattle.admission.proofs.Answers.{reply-refused, reply-admitted}
 use Rattle.finishing.specs.Finishing.{Ran}
-use Rattle.finishing.specs.Answer.{replyOf, outcomeOf, ranOf}
-use Rattle.finishing.specs.declared.Admission.{Admission}
-use Rattle.finishing.proofs.Admission.{the-type as admission-type}
-use Rattle.finishing.proofs.Ending.{reply-refused, reply-admitted}
+use Rattle.finishing.specs.Answer.{outcomeOf, ranOf}
 use Rattle.finishing.specs.declared.Outcome.{Outcome}
 use Rattle.finishing.specs.declared.Run.{Run}
 use Rattle.answer_lines.specs.Shown.{word, refusedLine, ranLine, replyLine}

@@ -1,10 +1,11 @@
 // The lines that the finishing program prints of finishing's answer.
-use finishing::Admission;
+use admission::Admission;
 use finishing::Outcome;
 use finishing::Run;
 ghost use mathlib.Core.Path.{_≡_};
 ghost use Rattle.slices.specs.Put.{put, behind};
-ghost use Rattle.finishing.specs.Answer.{replyOf, ranOf};
+ghost use Rattle.admission.specs.Answer.{replyOf};
+ghost use Rattle.finishing.specs.Answer.{ranOf};
 ghost use Rattle.answer_lines.specs.Shown.{ranLine, replyLine};
 
 // The line of finishing's answer, put at the start of `out`; answered is its length. Where it does not fit, `out` stays and 0 is answered.
@@ -15,8 +16,8 @@ pub fn print_finishing(admission: Admission, run: Run, area: &[u8], out: &mut [u
     let Admission::Admitted = admission else {
         return printing::print_numbers(
             b"refused",
-            finishing::number(admission),
-            finishing::place(admission) as u64,
+            admission::number(admission),
+            admission::place(admission) as u64,
             out,
         );
     };

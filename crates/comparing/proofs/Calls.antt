@@ -6,8 +6,8 @@ use lib.ListN.{length}
 use Rattle.calculus.specs.Term.{Term}
 use Rattle.calculus.specs.Run.{run}
 use Rattle.reading.specs.Reply.{Reply}
-use Rattle.finishing.specs.Finishing.{admitted}
-use Rattle.finishing.proofs.Calls.{Admits, Refused, admitted-held, refused-listed}
+use Rattle.admission.specs.Admission.{admitted}
+use Rattle.admission.proofs.Calls.{Admits, Refused, admitted-held, refused-listed}
 use Rattle.comparing.specs.Comparing.{After, bothRan, firstAdmitted, comparingOf}
 
 -- a call of comparing: refused with the areas as they were, or both runs

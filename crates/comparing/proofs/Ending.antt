@@ -14,11 +14,12 @@ use Rattle.calculus.specs.Run.{Outcome, Run, run, outcome, reached}
 use Rattle.calculus.proofs.PrefixCode.{length-text}
 use Rattle.reading.specs.Reply.{Reply, passedOn}
 use Rattle.stepping.specs.Areas.{holding, cleared}
-use Rattle.finishing.specs.Finishing.{Ran, After as Finish, admitted, admission, recordOf, finishAdmitted, finishingOf}
-use Rattle.finishing.specs.Answer.{replyOf}
-use Rattle.finishing.specs.declared.Admission.{Admission}
-use Rattle.finishing.proofs.Admission.{the-type}
-use Rattle.finishing.proofs.Ending.{said-refused, said-admitted}
+use Rattle.admission.specs.Admission.{admitted, admission}
+use Rattle.admission.specs.Answer.{replyOf}
+use Rattle.admission.specs.declared.Admission.{Admission}
+use Rattle.admission.proofs.Admission.{the-type}
+use Rattle.admission.proofs.Answers.{said-refused, said-admitted}
+use Rattle.finishing.specs.Finishing.{Ran, After as Finish, recordOf, finishAdmitted, finishingOf}
 use Rattle.comparing.specs.Comparing.{Compared, After, verdict, firstAdmitted, comparingOf}
 use Rattle.comparing.specs.Turning.{SameIfTurned}
 use Rattle.comparing.proofs.Turning.{same-if-turned}

@@ -11,7 +11,7 @@ use Rattle.calculus.specs.Term.{Term, text}
 use Rattle.calculus.specs.Run.{Outcome, run, outcome, reached}
 use Rattle.calculus.proofs.Results.{results-equal}
 use Rattle.reading.specs.Reply.{Reply}
-use Rattle.finishing.specs.Finishing.{admitted}
+use Rattle.admission.specs.Admission.{admitted}
 use Rattle.comparing.specs.Comparing.{Compared, After, bySame, verdict, firstAdmitted, comparingOf}
 use Rattle.comparing.specs.Turning.{SameIfTurned}
 

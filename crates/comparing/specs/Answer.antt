@@ -1,6 +1,6 @@
 -- The number and the word of each case of comparing's answer (REQUIREMENTS, Comparing).
 use Rattle.reading.specs.Reply.{Reply, passedOn}
-use Rattle.finishing.specs.Answer.{replyOf}
+use Rattle.admission.specs.Answer.{replyOf}
 use Rattle.comparing.specs.Comparing.{Compared}
 use Rattle.comparing.specs.declared.Comparing.{Comparing}
 use Rattle.comparing.specs.declared.Comparing.the-variants.{Refused, Same, Different, Undecided}

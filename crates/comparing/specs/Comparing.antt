@@ -8,7 +8,7 @@ use Rattle.calculus.specs.Term.{Term, text}
 use Rattle.calculus.specs.Run.{Outcome, Run, run, outcome, reached}
 use Rattle.reading.specs.Reply.{Reply}
 use Rattle.stepping.specs.Areas.{holding, cleared}
-use Rattle.finishing.specs.Finishing.{admitted}
+use Rattle.admission.specs.Admission.{admitted}
 
 -- what comparing answers
 pub data Compared : Type 0 where

@@ -55,7 +55,7 @@ pub extern "C" fn controller_compare(
     ensures { λ r. ⌜ (r, now (first .exit), now (second .exit), now (work .exit))
         ≡ codedCompare (comparingOf (now (first .entry)) «first_term» (now (second .entry)) «second_term» (now (work .entry)) fuel) ⌝ }
 {
-    term_numbers::compare_number(comparing::compare(
+    term_numbers::compare_number(comparison::compare(
         first,
         first_term,
         second,

@@ -12,10 +12,10 @@ use Rattle.stepping.specs.Answer as stepping
 use Rattle.stepping.specs.declared.Stepping.{Stepping}
 use Rattle.stepping.specs.declared.Stepping.the-variants as step
 use Rattle.stepping.proofs.Stepping.{the-type as Stepping-type}
-use Rattle.finishing.specs.Answer as finishing
-use Rattle.finishing.specs.declared.Admission.{Admission}
-use Rattle.finishing.specs.declared.Admission.the-variants as admission
-use Rattle.finishing.proofs.Admission.{the-type as Admission-type}
+use Rattle.admission.specs.Answer as admission
+use Rattle.admission.specs.declared.Admission.{Admission}
+use Rattle.admission.specs.declared.Admission.the-variants as admit
+use Rattle.admission.proofs.Admission.{the-type as Admission-type}
 use Rattle.comparing.specs.Answer as comparing
 use Rattle.comparing.specs.declared.Comparing.{Comparing}
 use Rattle.comparing.specs.declared.Comparing.the-variants as compare
@@ -35,13 +35,13 @@ stepping-refusal (step.Normal size) k = absurd (miss (0 ∷ 1 ∷ 2 ∷ 3 ∷ []
 stepping-refusal (step.NoRoom size) k = absurd (miss (0 ∷ 1 ∷ 2 ∷ 3 ∷ []) 5 tt k)
 stepping-refusal (step.Done rule size) k = absurd (miss (0 ∷ 1 ∷ 2 ∷ 3 ∷ []) 6 tt k)
 
-pub finishing-refusal : (a : Admission) → OneOf (0 ∷ 1 ∷ 2 ∷ 3 ∷ 4 ∷ []) (tagOf Admission-type a) → Refusal (finishing.replyOf a)
-finishing-refusal admission.AreaTooLong k = refl
-finishing-refusal admission.WorkTooShort k = refl
-finishing-refusal admission.LengthTooLong k = refl
-finishing-refusal admission.FuelTooHigh k = refl
-finishing-refusal (admission.Unread reading) k = refl
-finishing-refusal admission.Admitted k = absurd (miss (0 ∷ 1 ∷ 2 ∷ 3 ∷ 4 ∷ []) 5 tt k)
+pub finishing-refusal : (a : Admission) → OneOf (0 ∷ 1 ∷ 2 ∷ 3 ∷ 4 ∷ []) (tagOf Admission-type a) → Refusal (admission.replyOf a)
+finishing-refusal admit.AreaTooLong k = refl
+finishing-refusal admit.WorkTooShort k = refl
+finishing-refusal admit.LengthTooLong k = refl
+finishing-refusal admit.FuelTooHigh k = refl
+finishing-refusal (admit.Unread reading) k = refl
+finishing-refusal admit.Admitted k = absurd (miss (0 ∷ 1 ∷ 2 ∷ 3 ∷ 4 ∷ []) 5 tt k)
 
 pub comparing-refusal : {a : Comparing} {d : Admission} → a ≡ compare.Refused d → Refusal (comparing.answerOf a)
 comparing-refusal e = subst (λ (a : Comparing). Refusal (comparing.answerOf a)) (sym e) refl

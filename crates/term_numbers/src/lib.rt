@@ -1,6 +1,6 @@
 // The answers of the operations on terms, each as one number for callers in C.
+use admission::Admission;
 use comparing::Comparing;
-use finishing::Admission;
 use finishing::Outcome;
 use finishing::Run;
 use reading::Reading;
@@ -8,7 +8,8 @@ use stepping::Stepping;
 ghost use mathlib.Core.Path.{_≡_};
 ghost use Rattle.reading.specs.Answer.{answerOf as readingAnswer};
 ghost use Rattle.stepping.specs.Answer.{answerOf as steppingAnswer};
-ghost use Rattle.finishing.specs.Answer.{replyOf, outcomeOf, ranOf};
+ghost use Rattle.admission.specs.Answer.{replyOf};
+ghost use Rattle.finishing.specs.Answer.{outcomeOf, ranOf};
 ghost use Rattle.comparing.specs.Answer.{answerOf as comparingAnswer};
 ghost use Rattle.codes.specs.Encoding.{outcomeCode, readNumber, stepNumber, finishNumber, compareNumber};
 
@@ -52,7 +53,7 @@ pub fn finish_number(admission: Admission, run: Run) -> u64
     let outcome = run.outcome;
     match admission {
         Admission::Admitted => codes::narrow(outcome_code(outcome), run.count as usize, run.size),
-        _ => codes::wide(finishing::number(admission), finishing::place(admission)),
+        _ => codes::wide(admission::number(admission), admission::place(admission)),
     }
 }
 

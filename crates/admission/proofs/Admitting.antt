@@ -17,7 +17,7 @@ use Rattle.reading.specs.Reply.{Reply, passedOn}
 use Rattle.reading.specs.Reading.{readingOf, orRefusal, termRead}
 use Rattle.reading.specs.Answer.{answerOf as readingAnswer}
 use Rattle.reading.proofs.Whole.{whole-term, refused-none}
-use Rattle.finishing.specs.Finishing.{admitted, admission}
+use Rattle.admission.specs.Admission.{admitted, admission}
 
 -- the term of a term's text is that term
 pub term-read : (t : Term) → termRead (text t) ≡ Reply.answered t

@@ -1,10 +1,11 @@
--- `comparing::compare` meets its contract: each of its three ways out is a law of `Ending`. Assumes nothing.
+-- `comparison::compare` meets its contract: each of its three ways out is a law of comparing's `Ending`. Assumes nothing.
 use borrow.Author.Needs.{needs}
-use Rattle.finishing.specs.Answer.{replyOf, outcomeOf}
+use Rattle.admission.specs.Answer.{replyOf}
+use Rattle.finishing.specs.Answer.{outcomeOf}
 use Rattle.comparing.specs.Answer.{answerOf}
 use Rattle.comparing.proofs.Ending.{after-first-refused, after-second-refused, after-both}
-use Rattle.comparing.proofs.compare.Statement.{statement}
-use Rattle.comparing.proofs.compare.Tie as tie
+use Rattle.comparison.proofs.compare.Statement.{statement}
+use Rattle.comparison.proofs.compare.Tie as tie
 
 admit-requires : tie.Need-admit-requires
 admit-requires c κs = search needs
@@ -68,7 +69,7 @@ same-length-8 c = search needs
 
 returns-3 : tie.Need-returns-3
 returns-3 c =
-    let at-finish2 = c .before .before .before .before .before .before .before .before .before in
+    let at-finish2 = c .before .before .before .before .before .before .before in
     let at-finish = at-finish2 .before .before .before .before .before .before .before in
     let at-match2 = at-finish .before .before .before .before in
     let at-admit2 = at-match2 .before in

@@ -1,10 +1,10 @@
--- `finishing::admit` meets its contract: each way out is a law of `Admitting`. Assumes nothing.
+-- `admission::admit` meets its contract: each way out is a law of `Admitting`. Assumes nothing.
 use mathlib.Core.Path.{sym}
 use borrow.Author.Needs.{needs}
 use lib.Seq.{length-take-le}
-use Rattle.finishing.proofs.Admitting.{area-refused, work-refused, length-refused, fuel-refused, unread, whole}
-use Rattle.finishing.proofs.admit.Statement.{statement}
-use Rattle.finishing.proofs.admit.Tie as tie
+use Rattle.admission.proofs.Admitting.{area-refused, work-refused, length-refused, fuel-refused, unread, whole}
+use Rattle.admission.proofs.admit.Statement.{statement}
+use Rattle.admission.proofs.admit.Tie as tie
 
 returns : tie.Need-returns
 returns c =
