@@ -5,7 +5,7 @@ use mathlib.Core.List.{List}
 use Rattle.reading.specs.Reply.{Reply}
 use Rattle.stepping.specs.Stepping as stepping
 use Rattle.finishing.specs.Finishing as finishing
-use Rattle.comparing.specs.Comparing as comparing
+use Rattle.verdicts.specs.Comparing as comparing
 use Rattle.codes.specs.Encoding.{stepNumber, finishNumber, compareNumber, codedStep, codedFinish, codedCompare}
 
 pub coded-step :

@@ -3,7 +3,7 @@ ghost use mathlib.Core.Path.{_≡_};
 ghost use Rattle.reading.specs.Reading.{readingOf};
 ghost use Rattle.stepping.specs.Stepping.{steppingOf};
 ghost use Rattle.finishing.specs.Finishing.{finishingOf};
-ghost use Rattle.comparing.specs.Comparing.{comparingOf};
+ghost use Rattle.verdicts.specs.Comparing.{comparingOf};
 ghost use Rattle.derivation_files.specs.Checking.{checkingOf};
 ghost use Rattle.matching.specs.Matching.{matchingOf};
 ghost use Rattle.codes.specs.Encoding.{readNumber, checkNumber, matchNumber, codedStep, codedFinish, codedCompare};
@@ -55,7 +55,7 @@ pub extern "C" fn controller_compare(
     ensures { λ r. ⌜ (r, now (first .exit), now (second .exit), now (work .exit))
         ≡ codedCompare (comparingOf (now (first .entry)) «first_term» (now (second .entry)) «second_term» (now (work .entry)) fuel) ⌝ }
 {
-    term_numbers::compare_number(comparison::compare(
+    term_numbers::compare_number(comparing::compare(
         first,
         first_term,
         second,

@@ -24,7 +24,7 @@ use Rattle.stepping.specs.Held.{Holds}
 use Rattle.stepping.specs.Stepping as stepping
 use Rattle.finishing.specs.Finishing as finishing
 use Rattle.finishing.specs.RunOf.{RunOf}
-use Rattle.comparing.specs.Comparing as comparing
+use Rattle.verdicts.specs.Comparing as comparing
 use Rattle.derivation_files.specs.Line.{fileText}
 use Rattle.derivation_files.specs.Checking.{checkingOf}
 use Rattle.derivation_files.specs.Checks.{ChecksAs}

@@ -16,9 +16,9 @@ use Rattle.admission.specs.Answer as admission
 use Rattle.admission.specs.declared.Admission.{Admission}
 use Rattle.admission.specs.declared.Admission.the-variants as admit
 use Rattle.admission.proofs.Admission.{the-type as Admission-type}
-use Rattle.comparing.specs.Answer as comparing
-use Rattle.comparing.specs.declared.Comparing.{Comparing}
-use Rattle.comparing.specs.declared.Comparing.the-variants as compare
+use Rattle.verdicts.specs.Answer as comparing
+use Rattle.verdicts.specs.declared.Comparing.{Comparing}
+use Rattle.verdicts.specs.declared.Comparing.the-variants as compare
 
 pub reading-refusal : (a : Reading) → OneOf (1 ∷ 2 ∷ 3 ∷ []) (tagOf Reading-type a) → Refusal (reading.answerOf a)
 reading-refusal (Whole size) k = absurd (miss (1 ∷ 2 ∷ 3 ∷ []) 0 tt k)

@@ -1,16 +1,16 @@
 // The answers of the operations on terms, each as one number for callers in C.
 use admission::Admission;
-use comparing::Comparing;
 use finishing::Outcome;
 use finishing::Run;
 use reading::Reading;
 use stepping::Stepping;
+use verdicts::Comparing;
 ghost use mathlib.Core.Path.{_≡_};
 ghost use Rattle.reading.specs.Answer.{answerOf as readingAnswer};
 ghost use Rattle.stepping.specs.Answer.{answerOf as steppingAnswer};
 ghost use Rattle.admission.specs.Answer.{replyOf};
 ghost use Rattle.finishing.specs.Answer.{outcomeOf, ranOf};
-ghost use Rattle.comparing.specs.Answer.{answerOf as comparingAnswer};
+ghost use Rattle.verdicts.specs.Answer.{answerOf as comparingAnswer};
 ghost use Rattle.codes.specs.Encoding.{outcomeCode, readNumber, stepNumber, finishNumber, compareNumber};
 
 // The number of reading's answer.
@@ -65,6 +65,6 @@ pub fn compare_number(answer: Comparing) -> u64
         Comparing::Same => codes::narrow(113, 0, 0),
         Comparing::Different => codes::narrow(114, 0, 0),
         Comparing::Undecided => codes::narrow(115, 0, 0),
-        _ => codes::wide(comparing::number(answer), comparing::place(answer)),
+        _ => codes::wide(verdicts::number(answer), verdicts::place(answer)),
     }
 }

@@ -1,1 +1,4 @@
-pub mod Checked
+pub mod Calls
+pub mod Turning
+pub mod Verdicts
+pub mod Ending

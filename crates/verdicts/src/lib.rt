@@ -1,32 +1,65 @@
-// What the checking program prints, as a function on bytes: no input and no output here.
-use checking::Checking;
+// What comparing answers: whether two terms have the same result, by the records of their runs.
+use admission::Admission;
+use finishing::Outcome;
+use finishing::Run;
 ghost use mathlib.Core.Path.{_≡_};
-ghost use Rattle.slices.specs.Put.{put, behind};
-ghost use Rattle.checking.specs.Answer.{answerOf};
-ghost use Rattle.answer_lines.specs.Shown.{shownCheck};
-ghost use Rattle.answering.specs.Program.{checkProgram};
+ghost use Rattle.slices.specs.Part.{part};
+ghost use Rattle.reading.specs.Reply.{Reply, numberIn, placeIn};
+ghost use Rattle.finishing.specs.Answer.{outcomeOf};
+ghost use Rattle.verdicts.specs.Comparing.{verdict};
+ghost use Rattle.verdicts.specs.Answer.{answerOf};
 
-// The checking program's line for a file, put at the start of `out`; the answer is its length. Where it does not fit, `out` stays and the
-// answer is 0.
-pub fn answer_check(file: &[u8], out: &mut [u8]) -> usize
-    ensures { λ r. ⌜ (now (out .exit) ≡ put 0 (checkProgram (now (file .entry))) (now (out .entry)))
-        × (r ≡ behind 0 (checkProgram (now (file .entry))) (now (out .entry))) ⌝ }
-{
-    print_checking(checking::check_derivation(file), out)
+// What comparing answers; specs/Answer.antt gives the number and the word of each case.
+pub enum Comparing {
+    // What finishing refuses of the first term, or else of the second, unaltered.
+    Refused(Admission),
+    // Both finished, with the same result.
+    Same,
+    // Both finished, with different results.
+    Different,
+    // Either was not finished.
+    Undecided,
 }
 
-// The line of checking's answer.
-fn print_checking(answer: Checking, out: &mut [u8]) -> usize
-    ensures { λ r. ⌜ (now (out .exit) ≡ put 0 (shownCheck (answerOf answer)) (now (out .entry)))
-        × (r ≡ behind 0 (shownCheck (answerOf answer)) (now (out .entry))) ⌝ }
+// The number of a refusal, 0 of a verdict.
+pub fn number(answer: Comparing) -> u64
+    ensures { λ r. ⌜ r ≡ numberIn (answerOf answer) ⌝ }
 {
-    let Checking::Accepted(lines) = answer else {
-        return printing::print_numbers(
-            b"refused",
-            checking::number(answer),
-            checking::place(answer) as u64,
-            out,
-        );
+    match answer {
+        Comparing::Refused(admission) => admission::number(admission),
+        Comparing::Same => 0,
+        Comparing::Different => 0,
+        Comparing::Undecided => 0,
+    }
+}
+
+// The place of a refusal, 0 of a verdict.
+pub fn place(answer: Comparing) -> usize
+    ensures { λ r. ⌜ r ≡ placeIn (answerOf answer) ⌝ }
+{
+    match answer {
+        Comparing::Refused(admission) => admission::place(admission),
+        Comparing::Same => 0,
+        Comparing::Different => 0,
+        Comparing::Undecided => 0,
+    }
+}
+
+// The verdict on two runs, by their records and the areas that hold the terms reached.
+pub fn verdict_on(first: &[u8], one: Run, second: &[u8], two: Run) -> Comparing
+    ensures { λ r. ⌜ answerOf r ≡ Reply.answered (verdict (outcomeOf (one .outcome)) (outcomeOf (two .outcome))
+        (part 0 (one .size) (now (first .entry))) (part 0 (two .size) (now (second .entry)))) ⌝ }
+{
+    let outcome = one.outcome;
+    let Outcome::Finished = outcome else {
+        return Comparing::Undecided;
     };
-    printing::print_count(b"accepted", lines as u64, out)
+    let other = two.outcome;
+    let Outcome::Finished = other else {
+        return Comparing::Undecided;
+    };
+    if slices::same_part(first, 0, one.size, second, 0, two.size) {
+        return Comparing::Same;
+    }
+    Comparing::Different
 }

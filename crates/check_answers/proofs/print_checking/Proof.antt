@@ -1,13 +1,13 @@
--- `verdicts::print_checking` meets its contract: the line is that of the answer. Assumes nothing.
+-- `check_answers::print_checking` meets its contract: the line is that of the answer. Assumes nothing.
 use mathlib.Core.Path.{sym, ap}
 use borrow.Author.Needs.{needs}
 use Rattle.checking.specs.Answer.{answerOf}
 use Rattle.checking.specs.declared.Checking.{Checking}
 use Rattle.answer_lines.specs.Shown.{shownCheck}
 use Rattle.answer_lines.proofs.Printing.{prints}
-use Rattle.verdicts.proofs.Checked.{checking-refused}
-use Rattle.verdicts.proofs.print_checking.Statement.{statement}
-use Rattle.verdicts.proofs.print_checking.Tie as tie
+use Rattle.check_answers.proofs.Checked.{checking-refused}
+use Rattle.check_answers.proofs.print_checking.Statement.{statement}
+use Rattle.check_answers.proofs.print_checking.Tie as tie
 
 enum-known-answer : tie.Need-enum-known-answer
 enum-known-answer c = search needs

@@ -10,7 +10,7 @@ use Rattle.calculus.specs.Run.{Outcome, run, outcome}
 use Rattle.calculus.specs.Turning.{Turn}
 use Rattle.reading.specs.Reply.{Reply}
 use Rattle.admission.specs.Admission.{admitted}
-use Rattle.comparing.specs.Comparing.{Compared}
+use Rattle.verdicts.specs.Comparing.{Compared}
 
 unfoldable pub SameIfTurned : Reply Compared → (first : List ℕ) (len₁ : ℕ) (second : List ℕ) (len₂ : ℕ) (work : List ℕ) (fuel : ℕ) → Type 0
 SameIfTurned answer first len₁ second len₂ work fuel =

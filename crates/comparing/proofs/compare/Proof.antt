@@ -1,11 +1,11 @@
--- `comparison::compare` meets its contract: each of its three ways out is a law of comparing's `Ending`. Assumes nothing.
+-- `comparing::compare` meets its contract: each of its three ways out is a law of comparing's `Ending`. Assumes nothing.
 use borrow.Author.Needs.{needs}
 use Rattle.admission.specs.Answer.{replyOf}
 use Rattle.finishing.specs.Answer.{outcomeOf}
-use Rattle.comparing.specs.Answer.{answerOf}
-use Rattle.comparing.proofs.Ending.{after-first-refused, after-second-refused, after-both}
-use Rattle.comparison.proofs.compare.Statement.{statement}
-use Rattle.comparison.proofs.compare.Tie as tie
+use Rattle.verdicts.specs.Answer.{answerOf}
+use Rattle.verdicts.proofs.Ending.{after-first-refused, after-second-refused, after-both}
+use Rattle.comparing.proofs.compare.Statement.{statement}
+use Rattle.comparing.proofs.compare.Tie as tie
 
 admit-requires : tie.Need-admit-requires
 admit-requires c κs = search needs

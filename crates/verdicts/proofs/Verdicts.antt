@@ -13,7 +13,7 @@ use Rattle.finishing.specs.declared.Outcome.{Outcome as Declared}
 use Rattle.finishing.specs.declared.Outcome.the-variants.{Finished, Spent, NoRoom}
 use Rattle.finishing.proofs.Outcome.{the-type}
 use Rattle.reading.specs.Reply.{Reply}
-use Rattle.comparing.specs.Comparing.{Compared, bySame, verdict}
+use Rattle.verdicts.specs.Comparing.{Compared, bySame, verdict}
 
 -- the first case of an outcome is finished
 finished : (o : Declared) → tagOf the-type o ≡ 0 → outcomeOf o ≡ Outcome.finished

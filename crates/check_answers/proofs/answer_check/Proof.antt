@@ -1,9 +1,9 @@
--- `verdicts::answer_check` meets its contract: checking's promise, and the line of its answer. Assumes nothing.
+-- `check_answers::answer_check` meets its contract: checking's promise, and the line of its answer. Assumes nothing.
 use Rattle.answer_lines.proofs.Printing.{prints}
-use Rattle.verdicts.proofs.Checked.{checked}
+use Rattle.check_answers.proofs.Checked.{checked}
 use borrow.Author.Needs.{needs}
-use Rattle.verdicts.proofs.answer_check.Statement.{statement}
-use Rattle.verdicts.proofs.answer_check.Tie as tie
+use Rattle.check_answers.proofs.answer_check.Statement.{statement}
+use Rattle.check_answers.proofs.answer_check.Tie as tie
 
 check-derivation-requires : tie.Need-check-derivation-requires
 check-derivation-requires c κs = search needs

@@ -1,11 +1,11 @@
--- `comparing::verdict_on` meets its contract: each way out is a law of `Verdicts`. Assumes nothing.
+-- `verdicts::verdict_on` meets its contract: each way out is a law of `Verdicts`. Assumes nothing.
 use mathlib.Core.Path.{sym, _∙_}
 use mathlib.Core.Bool.{true, false}
 use borrow.Author.Needs.{needs}
 use Rattle.slices.specs.Part.{part}
-use Rattle.comparing.proofs.Verdicts.{first-undecided, second-undecided, decided}
-use Rattle.comparing.proofs.verdict_on.Statement.{statement}
-use Rattle.comparing.proofs.verdict_on.Tie as tie
+use Rattle.verdicts.proofs.Verdicts.{first-undecided, second-undecided, decided}
+use Rattle.verdicts.proofs.verdict_on.Statement.{statement}
+use Rattle.verdicts.proofs.verdict_on.Tie as tie
 
 enum-told : tie.Need-enum-told
 enum-told c = search needs

@@ -20,9 +20,9 @@ use Rattle.admission.specs.declared.Admission.{Admission}
 use Rattle.admission.proofs.Admission.{the-type}
 use Rattle.admission.proofs.Answers.{said-refused, said-admitted}
 use Rattle.finishing.specs.Finishing.{Ran, After as Finish, recordOf, finishAdmitted, finishingOf}
-use Rattle.comparing.specs.Comparing.{Compared, After, verdict, firstAdmitted, comparingOf}
-use Rattle.comparing.specs.Turning.{SameIfTurned}
-use Rattle.comparing.proofs.Turning.{same-if-turned}
+use Rattle.verdicts.specs.Comparing.{Compared, After, verdict, firstAdmitted, comparingOf}
+use Rattle.verdicts.specs.Turning.{SameIfTurned}
+use Rattle.verdicts.proofs.Turning.{same-if-turned}
 
 -- ---- one run
 

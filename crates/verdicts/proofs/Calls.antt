@@ -8,7 +8,7 @@ use Rattle.calculus.specs.Run.{run}
 use Rattle.reading.specs.Reply.{Reply}
 use Rattle.admission.specs.Admission.{admitted}
 use Rattle.admission.proofs.Calls.{Admits, Refused, admitted-held, refused-listed}
-use Rattle.comparing.specs.Comparing.{After, bothRan, firstAdmitted, comparingOf}
+use Rattle.verdicts.specs.Comparing.{After, bothRan, firstAdmitted, comparingOf}
 
 -- a call of comparing: refused with the areas as they were, or both runs
 pub data Call (first : List ℕ) (len₁ : ℕ) (second : List ℕ) (len₂ : ℕ) (work : List ℕ) (fuel : ℕ) : After → Type 0 where

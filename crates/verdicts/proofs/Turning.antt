@@ -12,8 +12,8 @@ use Rattle.calculus.specs.Run.{Outcome, run, outcome, reached}
 use Rattle.calculus.proofs.Results.{results-equal}
 use Rattle.reading.specs.Reply.{Reply}
 use Rattle.admission.specs.Admission.{admitted}
-use Rattle.comparing.specs.Comparing.{Compared, After, bySame, verdict, firstAdmitted, comparingOf}
-use Rattle.comparing.specs.Turning.{SameIfTurned}
+use Rattle.verdicts.specs.Comparing.{Compared, After, bySame, verdict, firstAdmitted, comparingOf}
+use Rattle.verdicts.specs.Turning.{SameIfTurned}
 
 abbrev replyIn : After → Reply Compared
 replyIn (After.after reply first second work) = reply
