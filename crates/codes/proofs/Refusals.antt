@@ -1,12 +1,15 @@
 -- A refusal is coded as its number and its place. Assumes nothing.
 use Prim.Native.Nat.{ℕ}
-use mathlib.Core.Path.{_≡_, _∙_, sym, ap}
+use mathlib.Core.Path.{_≡_, _∙_, refl, sym, ap, subst}
 use Rattle.reading.specs.Reply.{Reply, numberIn, placeIn, passedOn}
 use Rattle.codes.specs.Encoding.{Parts, encode, parts}
 
 -- a refusal is what is passed on of it
 abbrev pub Refusal : {X : Type 0} → Reply X → Type 0
 Refusal reply = reply ≡ passedOn reply
+
+pub refused-passed : {X : Type 0} {reply : Reply X} {n p : ℕ} → reply ≡ Reply.refused n p → Refusal reply
+refused-passed e = subst Refusal (sym e) refl
 
 pub coded-refusal :
     {X : Type 0} (answer : X → Parts) (reply : Reply X) → Refusal reply →

@@ -142,7 +142,3 @@ laid-out {j} (Derivation.line {name} f among d) =
       accepted =
           λ few short. let (checked, claims) = complete (laid .listing) (laid .follow) some-line few short in (checked, claims j claim);
     }
-
--- every derivable judgement is the claim of lines that each follow
-pub derivable-listed : (j : Judgement) → Derivable j → (ls : List Line) × LinesFollow [] ls × (claimOf ls ≡ some j)
-derivable-listed j d = let laid = laid-out (d .derivation) in (laid .listed, laid .follow, laid .claim)

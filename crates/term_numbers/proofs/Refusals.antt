@@ -3,7 +3,7 @@ use mathlib.Core.Path.{_≡_, refl, sym, subst}
 use mathlib.Core.List.{List, [], _∷_}
 use types.Run.{OneOf, miss}
 use denote.Enum.Declared.{tagOf}
-use Rattle.codes.proofs.Refusals.{Refusal}
+use Rattle.codes.proofs.Refusals.{Refusal, refused-passed}
 use Rattle.reading.specs.Answer as reading
 use Rattle.reading.specs.declared.Reading.{Reading}
 use Rattle.reading.specs.declared.Reading.the-variants.{Whole, NoLetter, NotWhole, Beyond}
@@ -14,8 +14,8 @@ use Rattle.stepping.specs.declared.Stepping.the-variants as step
 use Rattle.stepping.proofs.Stepping.{the-type as Stepping-type}
 use Rattle.admission.specs.Answer as admission
 use Rattle.admission.specs.declared.Admission.{Admission}
-use Rattle.admission.specs.declared.Admission.the-variants as admit
 use Rattle.admission.proofs.Admission.{the-type as Admission-type}
+use Rattle.admission.proofs.Answers.{reply-refused}
 use Rattle.verdicts.specs.Answer as comparing
 use Rattle.verdicts.specs.declared.Comparing.{Comparing}
 use Rattle.verdicts.specs.declared.Comparing.the-variants as compare
@@ -36,12 +36,7 @@ stepping-refusal (step.NoRoom size) k = absurd (miss (0 ∷ 1 ∷ 2 ∷ 3 ∷ []
 stepping-refusal (step.Done rule size) k = absurd (miss (0 ∷ 1 ∷ 2 ∷ 3 ∷ []) 6 tt k)
 
 pub finishing-refusal : (a : Admission) → OneOf (0 ∷ 1 ∷ 2 ∷ 3 ∷ 4 ∷ []) (tagOf Admission-type a) → Refusal (admission.replyOf a)
-finishing-refusal admit.AreaTooLong k = refl
-finishing-refusal admit.WorkTooShort k = refl
-finishing-refusal admit.LengthTooLong k = refl
-finishing-refusal admit.FuelTooHigh k = refl
-finishing-refusal (admit.Unread reading) k = refl
-finishing-refusal admit.Admitted k = absurd (miss (0 ∷ 1 ∷ 2 ∷ 3 ∷ 4 ∷ []) 5 tt k)
+finishing-refusal a k = refused-passed (reply-refused a k .2)
 
 pub comparing-refusal : {a : Comparing} {d : Admission} → a ≡ compare.Refused d → Refusal (comparing.answerOf a)
 comparing-refusal e = subst (λ (a : Comparing). Refusal (comparing.answerOf a)) (sym e) refl
