@@ -8,12 +8,10 @@ use mathlib.Core.List.{List, _++_}
 use lib.ListN.{length, take, drop, length-take, drop-of-length-le}
 use lib.Seq.{take-all, take-at}
 use Rattle.finish_line.specs.declared.Asked.{Asked}
-use Rattle.finish_line.specs.declared.Asked.the-variants.{OtherShape, Request}
 use Rattle.columns.proofs.Appending.{Appends}
 use Rattle.reading.specs.Reply.{Reply}
 use Rattle.finishing.specs.Finishing.{Ran, After, finishingOf}
 use Rattle.answer_lines.specs.Shown.{replyLine, shownRun}
-use Rattle.answering.specs.Program.{shapeLine}
 use Rattle.answering.specs.Answer.{finishedIn, printedRun, areaIn, workIn, termAfter, workAfter}
 use Rattle.answer_lines.proofs.Printing.{prints}
 

@@ -3,7 +3,7 @@ use Prim.Native.Nat.{ℕ, _+_, _-_, _≤_, _<_}
 use native.Mathlib.Decide.{decLe}
 use native.Mathlib.Omega.{arith}
 use mathlib.Core.Path.{_≡_, sym, _∙_, ap, ap₂}
-use mathlib.Core.List.{List, [], _++_, append-nil}
+use mathlib.Core.List.{List, _++_, append-nil}
 use lib.ListN.{length, take, drop, replicate, length-take, length-replicate, length-append, replicate-append-replicate}
 use lib.Seq.{take-all, take-at, drop-at, take-take, take-append-add}
 use Rattle.line_states.specs.Fed.{lengthCap}

@@ -6,7 +6,7 @@ use native.Mathlib.Decide.{decLe}
 use mathlib.Core.Path.{_≡_, refl, sym, _∙_, ap, ap₂}
 use mathlib.Core.Bool.{Bool, true, false, not}
 use mathlib.Core.List.{List, [], _∷_, _++_}
-use mathlib.Core.Option.{Option, none, some}
+use mathlib.Core.Option.{none, some}
 use borrow.Author.Tests.{eq-eqb, ne-eqb, lt-ltb, le-ltb}
 use lib.Dec.{eqb, ltb}
 use lib.ListN.{length, getD, drop, set, drop-of-length-le, length-append, length-set}
@@ -25,7 +25,7 @@ use Rattle.fields.specs.declared.Judged.{Judged}
 use Rattle.fields.specs.declared.SixFields.{SixFields}
 use Rattle.checking.proofs.Claimed.{Claimed, claim-start, claim-next, claim-end}
 use Rattle.instances.proofs.TextInstance.{textsOf}
-use Rattle.fields.proofs.Cutting.{headOf, tailOf, firstLine, laterPieces, some-piece, six-found, line-ends}
+use Rattle.fields.proofs.Cutting.{headOf, tailOf, firstLine, laterPieces, some-piece, line-ends}
 use Rattle.derivation_lines.proofs.TextLine.{Table, Verdict, earlier-none, line-verdict, follows-six}
 
 -- ---- a line is left

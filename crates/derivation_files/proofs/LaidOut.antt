@@ -20,7 +20,7 @@ use mathlib.Core.List.{
 use lib.ListN.{length, length-append}
 use native.Mathlib.Omega.{arith}
 use Rattle.calculus.specs.Typing.{Judgement, Name, Follows}
-use Rattle.calculus.specs.Derivation.{Among, Derivation, Derivable}
+use Rattle.calculus.specs.Derivation.{Among, Derivation}
 use Rattle.derivation_files.specs.Line.{Premise, Line, judgements}
 use Rattle.derivation_files.specs.Instance.{Premises}
 use Rattle.derivation_files.specs.Checking.{earlierLine}

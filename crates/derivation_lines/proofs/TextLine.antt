@@ -11,8 +11,8 @@ use borrow.Author.Tests.{le-leb, lt-leb, lt-ltb}
 use lib.Dec.{leb, ltb}
 use lib.ListN.{length, getD, drop}
 use Rattle.calculus.specs.Limits.{lineLimit}
-use Rattle.calculus.specs.Term.{Term, text}
-use Rattle.calculus.specs.Types.{Context, Ty, contextText, tyText}
+use Rattle.calculus.specs.Term.{Term}
+use Rattle.calculus.specs.Types.{Context, Ty}
 use Rattle.calculus.specs.Typing.{Judgement, Name}
 use Rattle.calculus.specs.Parse.{termOf}
 use Rattle.calculus.proofs.PrefixCode.{text-termOf}
@@ -20,7 +20,7 @@ use Rattle.types.specs.Parse.{typeOf, contextOf}
 use Rattle.types.specs.Tests.{isSome}
 use Rattle.types.proofs.Parse.{text-typeOf, text-contextOf}
 use Rattle.slices.specs.Split.{fields}
-use Rattle.derivation_files.specs.Line.{Premise, judgementIf, judgementOf, nameOf, premiseOf}
+use Rattle.derivation_files.specs.Line.{Premise, judgementIf, nameOf, premiseOf}
 use Rattle.derivation_files.specs.Instance.{Premises, isInstance}
 use Rattle.derivation_files.specs.Checking.{Found, earlierLine, noPremise, namedPremise, premisesNone, premisesOne, premisesTwo}
 use Rattle.derivation_files.specs.Checking.{premiseCount, premisesOf, foundIf, foundInstance, foundName, foundJudgement, foundFields}
@@ -39,7 +39,7 @@ use Rattle.derivation_lines.specs.declared.Fault.the-variants.{
   Follows,
 }
 use Rattle.derivation_lines.specs.Number.{numberOf}
-use Rattle.derivation_lines.specs.TextLine.{wellFormed, instanceAt, unless, sixFault, ruleIn, firstIn, secondIn, lineFault}
+use Rattle.derivation_lines.specs.TextLine.{instanceAt, unless, sixFault, ruleIn, firstIn, secondIn, lineFault}
 use Rattle.fields.specs.declared.SixFields.{SixFields}
 use Rattle.premises.specs.declared.Cited.{Cited}
 use Rattle.premises.specs.declared.Cited.the-variants.{Line, Nothing}

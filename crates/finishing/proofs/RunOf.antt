@@ -17,7 +17,7 @@ use Rattle.reading.specs.Reply.{Reply}
 use Rattle.stepping.specs.Held.{Holds}
 use Rattle.admission.specs.Admission.{admitted}
 use Rattle.admission.proofs.Calls.{admitted-held}
-use Rattle.finishing.specs.Finishing.{After, ranFrom, finishAdmitted, finishingOf}
+use Rattle.finishing.specs.Finishing.{ranFrom, finishAdmitted, finishingOf}
 use Rattle.finishing.specs.RunOf.{RunOf}
 
 -- the run of a call that is not refused

@@ -13,7 +13,7 @@ use lib.ListN.{length, take, set, length-append}
 use lib.Seq.{append-snoc, take-all, take-append-le}
 use Rattle.calculus.specs.Limits.{areaLimit}
 use Rattle.slices.specs.Split.{tab, lineFeed}
-use Rattle.slices.specs.Numeral.{digit0, decimalOf}
+use Rattle.slices.specs.Numeral.{decimalOf}
 use Rattle.slices.proofs.Splitting.{Free, free-append}
 use Rattle.slices.proofs.Decimal.{and-both, decimal-free}
 use Rattle.decimals.specs.declared.Decimal.{Decimal}

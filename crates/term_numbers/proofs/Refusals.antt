@@ -1,6 +1,6 @@
 -- A case of an answer's enum that is no answer is a refusal. Assumes nothing.
 use mathlib.Core.Path.{_≡_, refl, sym, subst}
-use mathlib.Core.List.{List, [], _∷_}
+use mathlib.Core.List.{[], _∷_}
 use types.Run.{OneOf, miss}
 use denote.Enum.Declared.{tagOf}
 use Rattle.codes.proofs.Refusals.{Refusal, refused-passed}

@@ -5,7 +5,7 @@ use borrow.Author.Needs.{needs}
 use Prim.Native.Nat.{ℕ, _+_, _-_}
 use mathlib.Core.Path.{refl, sym, _∙_, ap, subst}
 use native.Mathlib.Omega.{arith}
-use lib.ListN.{length, set, replicate, length-replicate}
+use lib.ListN.{set, replicate, length-replicate}
 use mathlib.Core.List.{[]}
 use Rattle.reading.specs.Reply.{Reply}
 use Rattle.calculus.specs.Limits.{lineLimit}

@@ -1,6 +1,6 @@
 -- `numerals::decimal_length` meets its contract. The invariant: the digits counted and those of the number that is left are one more than
 -- the number has. The measure is the number that is left. Assumes nothing.
-use Prim.Native.Nat.{ℕ, _+_, _≤_}
+use Prim.Native.Nat.{_+_, _≤_}
 use native.Mathlib.Omega.{arith}
 use mathlib.Core.Path.{_≡_}
 use lib.ListN.{length}
