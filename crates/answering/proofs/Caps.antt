@@ -2,14 +2,14 @@
 use Prim.Native.Nat.{ℕ, _≤_, _<_, min}
 use native.Mathlib.Decide.{decLe}
 use native.Mathlib.Omega.{arith}
-use mathlib.Core.Path.{_≡_, sym, _∙_, ap, ap₂}
+use mathlib.Core.Path.{_≡_, sym, _∙_, ap₂}
 use mathlib.Core.List.{List}
 use borrow.Author.Tests.{lt-ltb, le-ltb}
 use lib.ListN.{length}
 use Rattle.reading.specs.Reply.{Reply}
 use Rattle.finishing.specs.Finishing.{After, noRun, finishingOf}
-use Rattle.finish_line.specs.Fed.{fuelCap, lengthCap}
-use Rattle.finish_line.proofs.Asks.{fuel-exact, fuel-over, length-over}
+use Rattle.line_states.specs.Fed.{fuelCap, lengthCap}
+use Rattle.line_states.proofs.Caps.{fuel-exact, fuel-over, length-over}
 
 module _ (area work : List ℕ) (short : length area ≤ 16384) (room : length area ≤ length work) where
   -- a length over the area

@@ -1,11 +1,11 @@
 -- What a program hands to standard output, by whether standard input could be read. Assumes nothing.
 use Prim.Native.Nat.{ℕ}
 use native.Mathlib.Omega.{arith}
-use mathlib.Core.Path.{_≡_, sym, ap, subst}
+use mathlib.Core.Path.{_≡_, sym, subst}
 use mathlib.Core.Bool.{Bool, true, false}
 use mathlib.Core.List.{List, []}
 use Rattle.slices.proofs.Put.{put-fits, behind-fits}
-use Rattle.printing.proofs.Writing.{Appends}
+use Rattle.columns.proofs.Appending.{Appends}
 use Rattle.answering.specs.Program.{unlessFailed}
 
 -- nothing is put into a buffer where it could not

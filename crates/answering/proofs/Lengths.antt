@@ -7,7 +7,7 @@ use mathlib.Core.List.{List, [], _∷_, List·Memᴰ, List·Memᴰ·head, List·
 use mathlib.Core.Option.{Option, none, some}
 use lib.ListN.{length, take, drop, length-take}
 use lib.Seq.{take-at}
-use Rattle.calculus.specs.Term.{Term, size}
+use Rattle.calculus.specs.Term.{size}
 use Rattle.calculus.specs.Run.{Outcome, run, outcome, count, reached}
 use Rattle.calculus.proofs.Runs.{count-fuel, reached-fits}
 use Rattle.calculus.proofs.PrefixCode.{length-text}
@@ -18,12 +18,12 @@ use Rattle.slices.proofs.Put.{put-fits, behind-fits}
 use Rattle.slices.proofs.Decimal.{decimal-length}
 use Rattle.reading.specs.Reply.{Reply, Refuses}
 use Rattle.stepping.specs.Areas.{holding}
-use Rattle.finishing.specs.Finishing.{After, finishingOf}
+use Rattle.finishing.specs.Finishing.{After}
 use Rattle.finishing.proofs.Calls.{Call, call}
 use Rattle.printing.specs.Printed.{lineOf, countOf}
 use Rattle.printing.proofs.Writing.{length-row}
-use Rattle.finish_line.specs.Request.{Request, requestOf}
-use Rattle.answering.specs.Shown.{word, refusedLine, shownRun, shownCheck}
+use Rattle.line_states.specs.Request.{Request, requestOf}
+use Rattle.answer_lines.specs.Shown.{word, refusedLine, shownRun, shownCheck}
 use Rattle.answering.specs.Program.{areaWith, requestLine, finishProgram}
 use Rattle.answering.proofs.Zeros.{zeros}
 

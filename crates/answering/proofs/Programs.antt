@@ -14,13 +14,13 @@ use Rattle.slices.specs.Put.{put, behind}
 use Rattle.reading.specs.Reply.{Reply}
 use Rattle.derivation_files.specs.Checking.{checkingOf}
 use Rattle.finishing.specs.Finishing.{finishingOf}
-use Rattle.finish_line.specs.Request.{requestOf}
-use Rattle.finish_line.specs.Request.{Request as Wanted}
+use Rattle.line_states.specs.Request.{requestOf}
+use Rattle.line_states.specs.Request.{Request as Wanted}
 use Rattle.finish_line.specs.Answer.{askedOf}
-use Rattle.finish_line.specs.Fed.{fuelCap, lengthCap}
+use Rattle.line_states.specs.Fed.{fuelCap, lengthCap}
 use Rattle.finish_line.specs.declared.Asked.{Asked}
 use Rattle.finish_line.proofs.Asks.{Answers, inputOf, after, line-answers}
-use Rattle.answering.specs.Shown.{shownRun, shownCheck}
+use Rattle.answer_lines.specs.Shown.{shownRun, shownCheck}
 use Rattle.answering.specs.Program.{areaWith, requestLine, finishProgram, checkProgram, unlessFailed}
 use Rattle.answering.specs.Answer.{printedRun}
 use Rattle.answering.proofs.Ranges.{Ranged, ranged}

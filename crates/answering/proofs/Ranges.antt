@@ -8,7 +8,7 @@ use borrow.Author.Tests.{leb-true}
 use lib.Dec.{leb}
 use Rattle.slices.specs.Split.{split, fields}
 use Rattle.slices.specs.Numeral.{decimalOf}
-use Rattle.finish_line.specs.Request.{Request, requestIf, requestWith, requestFields, requestLines, requestOf}
+use Rattle.line_states.specs.Request.{Request, requestIf, requestWith, requestFields, requestLines, requestOf}
 
 abbrev pub Ranged : Option Request → Type 0
 Ranged none = Unit

@@ -8,14 +8,12 @@ use mathlib.Core.List.{List, _++_}
 use lib.ListN.{length, take, drop, length-take, drop-of-length-le}
 use lib.Seq.{take-all, take-at}
 use Rattle.finish_line.specs.declared.Asked.{Asked}
-use Rattle.finish_line.specs.declared.Asked.the-variants.{OtherShape, Request}
-use Rattle.printing.proofs.Writing.{Appends}
+use Rattle.columns.proofs.Appending.{Appends}
 use Rattle.reading.specs.Reply.{Reply}
 use Rattle.finishing.specs.Finishing.{Ran, After, finishingOf}
-use Rattle.answering.specs.Shown.{replyLine, shownRun}
-use Rattle.answering.specs.Program.{shapeLine}
+use Rattle.answer_lines.specs.Shown.{replyLine, shownRun}
 use Rattle.answering.specs.Answer.{finishedIn, printedRun, areaIn, workIn, termAfter, workAfter}
-use Rattle.answering.proofs.Printing.{prints}
+use Rattle.answer_lines.proofs.Printing.{prints}
 
 -- a front is cut at the end of a list that is shorter
 pub take-min : (n : ℕ) (s : List ℕ) → take (min n (length s)) s ≡ take n s

@@ -3,12 +3,12 @@ use Prim.Native.Nat.{ℕ, _+_, _-_, _≤_, _<_}
 use native.Mathlib.Decide.{decLe}
 use native.Mathlib.Omega.{arith}
 use mathlib.Core.Path.{_≡_, sym, _∙_, ap, ap₂}
-use mathlib.Core.List.{List, [], _++_, append-nil}
+use mathlib.Core.List.{List, _++_, append-nil}
 use lib.ListN.{length, take, drop, replicate, length-take, length-replicate, length-append, replicate-append-replicate}
 use lib.Seq.{take-all, take-at, drop-at, take-take, take-append-add}
-use Rattle.finish_line.specs.Fed.{lengthCap}
-use Rattle.finish_line.specs.Kept.{keptIn}
-use Rattle.finish_line.proofs.Buffer.{kept-take}
+use Rattle.line_states.specs.Fed.{lengthCap}
+use Rattle.line_states.specs.Kept.{keptIn}
+use Rattle.line_states.proofs.Buffer.{kept-take}
 use Rattle.answering.specs.Program.{areaWith}
 
 abbrev pub zeros : ℕ → List ℕ

@@ -5,7 +5,7 @@ use lib.ListN.{take, drop}
 use Rattle.finishing.specs.Finishing.{After, finishingOf}
 use Rattle.finish_line.specs.declared.Asked.{Asked}
 use Rattle.finish_line.specs.declared.Asked.the-variants.{OtherShape, Request}
-use Rattle.answering.specs.Shown.{shownRun}
+use Rattle.answer_lines.specs.Shown.{shownRun}
 use Rattle.answering.specs.Program.{shapeLine}
 
 -- finishing in the first `area` bytes of both buffers, or in the whole of one that is shorter

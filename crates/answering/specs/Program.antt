@@ -5,12 +5,12 @@ use mathlib.Core.Bool.{Bool, true, false}
 use mathlib.Core.List.{List, [], _++_}
 use mathlib.Core.Option.{Option, none, some}
 use lib.ListN.{length, take, replicate}
-use Rattle.finish_line.specs.Request.{Request, requestOf}
+use Rattle.line_states.specs.Request.{Request, requestOf}
 use Rattle.finish_line.specs.Answer.{numberOf}
 use Rattle.finish_line.specs.declared.Asked.the-variants.{OtherShape}
 use Rattle.finishing.specs.Finishing.{finishingOf}
 use Rattle.derivation_files.specs.Checking.{checkingOf}
-use Rattle.answering.specs.Shown.{refusedLine, shownRun, shownCheck}
+use Rattle.answer_lines.specs.Shown.{refusedLine, shownRun, shownCheck}
 
 -- input of another shape
 abbrev pub shapeLine : List ℕ

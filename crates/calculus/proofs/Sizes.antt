@@ -1,5 +1,5 @@
 -- A step at most doubles the size of a term.
-use Prim.Native.Nat.{ℕ, _+_, _*_, _≤_}
+use Prim.Native.Nat.{ℕ, _*_, _≤_}
 use mathlib.Core.Path.{_≡_}
 use native.Mathlib.Omega.{arith}
 use Rattle.calculus.specs.Term.{Term, size}

@@ -41,7 +41,7 @@ fn answer(failed: bool, file: &[u8], out: &mut [u8]) -> usize
     if failed {
         return 0;
     }
-    answering::answer_check(file, out)
+    check_answers::answer_check(file, out)
 }
 
 fn main() {

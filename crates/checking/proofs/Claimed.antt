@@ -1,15 +1,16 @@
 -- The claim that the walk keeps: the texts of the last line passed decide those of the last line of all. Assumes nothing.
-use Prim.Native.Nat.{ℕ, suc, _≤_}
+use Prim.Native.Nat.{ℕ, _≤_}
 use mathlib.Core.Path.{_≡_, refl, sym, _∙_, ap}
 use mathlib.Core.List.{List, [], _∷_}
 use lib.ListN.{length, drop, drop-of-length-le}
-use Rattle.reading.specs.Reply.{Reply, numberIn}
+use Rattle.reading.specs.Reply.{Reply}
 use Rattle.slices.specs.Split.{lines, fields}
 use Rattle.fields.specs.Fields.{sixAt, hasSix, Texts, textsAt}
 use Rattle.fields.specs.declared.Judged.{Judged}
 use Rattle.fields.proofs.Cutting.{firstLine, six-found}
 use Rattle.checking.specs.Answer.{answerOf}
-use Rattle.checking.specs.Claim.{lastLine, firstThree, noTexts, claimTexts, nowhere, refusalOf}
+use Rattle.derivation_files.specs.Claim.{lastLine}
+use Rattle.checking.specs.Claim.{firstThree, noTexts, claimTexts, nowhere, refusalOf}
 use Rattle.checking.specs.declared.Checked.{Checked}
 use Rattle.checking.specs.declared.Checking.{Checking}
 use mathlib.Core.Bool.{true}
@@ -52,11 +53,6 @@ claim-end file claim n at reply claimed h e =
     ∙ ap (λ (r : Reply ℕ). claimTexts r file) e
 
 -- ---- refusals
-
--- a reply with a number is a refusal
-pub by-number : (reply : Reply ℕ) → (numberIn reply ≡ 0 → ⊥) → (number line : ℕ) × (reply ≡ Reply.refused number line)
-by-number (Reply.refused number line) n = (number, line, refl)
-by-number (Reply.answered m) n = absurd (n refl)
 
 -- a refusal has no claim
 pub refuses :

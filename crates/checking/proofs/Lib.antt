@@ -1,6 +1,4 @@
 -- The laws that the code's proofs cite.
-pub mod Replied
-pub mod TextChecking
 pub mod Claimed
 pub mod Walk
 pub mod Refused

@@ -4,30 +4,29 @@ use native.Mathlib.Numerals.{add-one}
 use native.Mathlib.Omega.{arith}
 use native.Mathlib.Decide.{decLe}
 use mathlib.Core.Path.{_≡_, refl, sym, _∙_, ap, ap₂}
-use mathlib.Core.Bool.{Bool, true, false, not, false≢true, true≢false}
+use mathlib.Core.Bool.{Bool, true, false, not}
 use mathlib.Core.List.{List, [], _∷_, _++_}
-use mathlib.Core.Option.{Option, none, some}
+use mathlib.Core.Option.{none, some}
 use borrow.Author.Tests.{eq-eqb, ne-eqb, lt-ltb, le-ltb}
 use lib.Dec.{eqb, ltb}
 use lib.ListN.{length, getD, drop, set, drop-of-length-le, length-append, length-set}
 use lib.Seq.{drop-cons, getD-set-same, getD-set-other}
-use Rattle.reading.specs.Reply.{Reply, numberIn, refuseIf}
+use Rattle.reading.specs.Reply.{Reply, refuseIf}
 use Rattle.calculus.specs.Limits.{fileLimit, lineLimit}
 use Rattle.calculus.specs.Typing.{Judgement}
 use Rattle.slices.specs.Split.{lineFeed, consFirst, cutOr, split, allButLast, lines, fields, lastByte}
 use Rattle.derivation_files.specs.Checking.{Found, earlierLine, foundFields, onward, checkLines, checkingOf}
-use Rattle.fields.specs.Fields.{judgedAt, sixAt, hasSix, Texts, textsAt}
-use Rattle.checking.specs.TextChecking.{wellFormed, instanceAt, isAnswered, unless, sixReply, ruleIn, firstIn, secondIn, lineReply}
-use Rattle.premises.specs.Cited.{citedFit}
-use Rattle.rules.specs.Rules.{isKnown, countOf}
+use Rattle.fields.specs.Fields.{judgedAt, sixAt, Texts, textsAt}
+use Rattle.derivation_lines.specs.declared.Fault.{Fault}
+use Rattle.derivation_lines.specs.Number.{numberOf}
+use Rattle.derivation_lines.specs.TextLine.{lineFault}
 use Rattle.checking.specs.Claim.{claimTexts, nowhere}
 use Rattle.fields.specs.declared.Judged.{Judged}
-use Rattle.checking.proofs.Claimed.{Claimed, claim-start, claim-next, claim-end}
-use Rattle.checking.proofs.Replied.{tests}
 use Rattle.fields.specs.declared.SixFields.{SixFields}
+use Rattle.checking.proofs.Claimed.{Claimed, claim-start, claim-next, claim-end}
 use Rattle.instances.proofs.TextInstance.{textsOf}
-use Rattle.fields.proofs.Cutting.{headOf, tailOf, firstLine, laterPieces, some-piece, six-found, line-ends}
-use Rattle.checking.proofs.TextChecking.{Table, Verdict, earlier-none, line-verdict}
+use Rattle.fields.proofs.Cutting.{headOf, tailOf, firstLine, laterPieces, some-piece, line-ends}
+use Rattle.derivation_lines.proofs.TextLine.{Table, Verdict, earlier-none, line-verdict, follows-six}
 
 -- ---- a line is left
 
@@ -68,49 +67,25 @@ lines-first bytes more = ap allButLast (some-piece lineFeed bytes) ∙ go (later
 
 -- ---- what a verdict says of the whole
 
+-- the fault that was found is that of the line at an index
+pub same-number :
+    (file starts : List ℕ) (n at : ℕ) {six : SixFields} {fault : Fault} → six ≡ sixAt file at → fault ≡ lineFault file starts n six →
+    numberOf fault ≡ numberOf (lineFault file starts n (sixAt file at))
+same-number file starts n at p q = ap numberOf (q ∙ ap (lineFault file starts n) p)
+
+-- a line that does not follow is the first bad one
 pub refused-whole :
-    (own : Texts) (n : ℕ) (reply : Reply ℕ) (found : Found) (rest : Judgement → Reply ℕ) →
-    Verdict own (n + 1) reply found → isAnswered reply ≡ false → reply ≡ onward n found rest
-refused-whole own n reply found rest (Verdict.good j e) no-answer = absurd (true≢false no-answer)
-refused-whole own n reply found rest (Verdict.bad number) no-answer = ap (Reply.refused number) (add-one n)
+    (own : Texts) (n : ℕ) (fault : Fault) (found : Found) (rest : Judgement → Reply ℕ) →
+    Verdict own fault found → (numberOf fault ≡ 0 → ⊥) → Reply.refused (numberOf fault) (n + 1) ≡ onward n found rest
+refused-whole own n fault found rest (Verdict.good j e) wrong = absurd (wrong refl)
+refused-whole own n fault found rest (Verdict.bad f e) wrong = ap (Reply.refused (numberOf f)) (add-one n)
 
+-- a line that follows has its judgement
 found-good :
-    (own : Texts) (line : ℕ) (reply : Reply ℕ) (found : Found) → Verdict own line reply found → isAnswered reply ≡ true →
+    (own : Texts) (fault : Fault) (found : Found) → Verdict own fault found → numberOf fault ≡ 0 →
     (j : Judgement) × (own ≡ textsOf j) × (found ≡ Found.good j)
-found-good own line reply found (Verdict.good j e) answer = (j, e, refl)
-found-good own line reply found (Verdict.bad number) answer = absurd (false≢true answer)
-
--- a line that is not refused is answered: a refusal has a number
-pub unrefused :
-    (file starts : List ℕ) (n : ℕ) (line : SixFields) → numberIn (lineReply file starts n line) ≡ 0 →
-    isAnswered (lineReply file starts n line) ≡ true
-unfolding lineReply
-unrefused file starts n line =
-    go (hasSix file line) (wellFormed (textsAt (line .own) file)) (isKnown (ruleIn file line))
-    (citedFit (countOf (ruleIn file line)) (firstIn file starts n line) (secondIn file starts n line))
-    (instanceAt file (ruleIn file line) (line .own) (firstIn file starts n line) (secondIn file starts n line))
-  where
-    go : (a b c d e : Bool) → numberIn (tests a b c d e (n + 1)) ≡ 0 → isAnswered (tests a b c d e (n + 1)) ≡ true
-    go false b c d e z = absurd (omega arith)
-    go true false c d e z = absurd (omega arith)
-    go true true false d e z = absurd (omega arith)
-    go true true true false e z = absurd (omega arith)
-    go true true true true false z = absurd (omega arith)
-    go true true true true true z = refl
-
--- a good line has six fields
-answered-six :
-    (file starts : List ℕ) (n : ℕ) (line : SixFields) → isAnswered (lineReply file starts n line) ≡ true → hasSix file line ≡ true
-unfolding lineReply
-answered-six file starts n line = go (hasSix file line)
-  where
-    go :
-        (t : Bool) →
-        isAnswered
-        (unless t 14 (n + 1) (sixReply file n line (ruleIn file line) (firstIn file starts n line) (secondIn file starts n line))) ≡ true →
-        t ≡ true
-    go true e = refl
-    go false e = e
+found-good own fault found (Verdict.good j e) right = (j, e, refl)
+found-good own fault found (Verdict.bad f e) right = absurd (e right)
 
 -- ---- the table, one line longer
 
@@ -191,48 +166,52 @@ module _
   pub room : length (lines file) ≤ lineLimit → n < lineLimit
   room few = let one = ap length one-line in omega (arith, passed .left)
 
-  verdict :
-      Verdict (textsAt (judgedAt file at) file) (n + 1) (lineReply file starts n (sixAt file at))
-      (foundFields (passed .earlier) (fields (firstLine (drop at file))))
-  verdict = line-verdict file starts n (passed .earlier) (passed .count) (passed .table) at
+  module _ (few : length (lines file) ≤ lineLimit) where
+    verdict :
+        Verdict (textsAt (judgedAt file at) file) (lineFault file starts n (sixAt file at))
+        (foundFields (passed .earlier) (fields (firstLine (drop at file))))
+    verdict = line-verdict file starts n (passed .earlier) (passed .count) (room few) (passed .table) at
 
-  pub refused :
-      isAnswered (lineReply file starts n (sixAt file at)) ≡ false → lineReply file starts n (sixAt file at) ≡ checkLines 0 [] (lines file)
-  refused no-answer =
-      refused-whole (textsAt (judgedAt file at) file) n (lineReply file starts n (sixAt file at))
-      (foundFields (passed .earlier) (fields (firstLine (drop at file))))
-      (λ j. checkLines (suc n) (passed .earlier ++ (j ∷ [])) (allButLast (laterPieces (drop at file)))) verdict no-answer ∙
-      ap (checkLines n (passed .earlier)) (sym one-line) ∙ passed .comes
+    -- at a bad line
+    pub refused :
+        (numberOf (lineFault file starts n (sixAt file at)) ≡ 0 → ⊥) →
+        Reply.refused (numberOf (lineFault file starts n (sixAt file at))) (n + 1) ≡ checkLines 0 [] (lines file)
+    refused wrong =
+        refused-whole (textsAt (judgedAt file at) file) n (lineFault file starts n (sixAt file at))
+        (foundFields (passed .earlier) (fields (firstLine (drop at file))))
+        (λ j. checkLines (suc n) (passed .earlier ++ (j ∷ [])) (allButLast (laterPieces (drop at file)))) verdict wrong ∙
+        ap (checkLines n (passed .earlier)) (sym one-line) ∙ passed .comes
 
-  -- behind a good line
-  pub again :
-      isAnswered (lineReply file starts n (sixAt file at)) ≡ true → length (lines file) ≤ lineLimit →
-      (sixAt file at .second .to < length file) × Passed file (set starts n at) (n + 1) (sixAt file at .second .to + 1) (sixAt file at .own)
-  again answer few =
-      let six = answered-six file starts n (sixAt file at) answer in
-      let (ends, later) = line-ends file at six (line-left file at last within) in
-      let (j, same, good) = found-good (textsAt (judgedAt file at) file) (n + 1) (lineReply file starts n (sixAt file at))
-      (foundFields (passed .earlier) (fields (firstLine (drop at file)))) verdict answer in
-      let rest : lines (drop at file) ≡ firstLine (drop at file) ∷ lines (drop (sixAt file at .second .to + 1) file) = one-line
-      ∙ ap (λ (ps : List (List ℕ)). firstLine (drop at file) ∷ allButLast ps) later in
-      let one = ap length rest in (
-        ends,
-        record {
-          earlier = passed .earlier ++ (j ∷ []);
-          count = omega (arith, length-append (passed .earlier) (j ∷ []), passed .count);
-          size = length-set starts n at ∙ passed .size;
-          table =
-              table-longer file starts (passed .earlier) j n at (passed .count) (omega (arith, passed .size, room few)) same
-              (passed .table);
-          left = omega (arith, passed .left);
-          comes =
-              ap (λ (k : ℕ). checkLines k (passed .earlier ++ (j ∷ [])) (lines (drop (sixAt file at .second .to + 1) file))) (add-one n) ∙
-              sym (ap (λ (found : Found). onward n found
-              (λ i. checkLines (suc n) (passed .earlier ++ (i ∷ [])) (lines (drop (sixAt file at .second .to + 1) file)))) good) ∙
-              ap (checkLines n (passed .earlier)) (sym rest) ∙ passed .comes;
-          claimed = claim-next file claim at (sixAt file at .second .to + 1) six rest (passed .claimed);
-        },
-      )
+    -- behind a good line
+    pub again :
+        numberOf (lineFault file starts n (sixAt file at)) ≡ 0 →
+        (sixAt file at .second .to < length file)
+        × Passed file (set starts n at) (n + 1) (sixAt file at .second .to + 1) (sixAt file at .own)
+    again right =
+        let six = follows-six file starts n (sixAt file at) right in
+        let (ends, later) = line-ends file at six (line-left file at last within) in
+        let (j, same, good) = found-good (textsAt (judgedAt file at) file) (lineFault file starts n (sixAt file at))
+        (foundFields (passed .earlier) (fields (firstLine (drop at file)))) verdict right in
+        let rest : lines (drop at file) ≡ firstLine (drop at file) ∷ lines (drop (sixAt file at .second .to + 1) file) = one-line
+        ∙ ap (λ (ps : List (List ℕ)). firstLine (drop at file) ∷ allButLast ps) later in
+        let one = ap length rest in (
+          ends,
+          record {
+            earlier = passed .earlier ++ (j ∷ []);
+            count = omega (arith, length-append (passed .earlier) (j ∷ []), passed .count);
+            size = length-set starts n at ∙ passed .size;
+            table =
+                table-longer file starts (passed .earlier) j n at (passed .count) (omega (arith, passed .size, room few)) same
+                (passed .table);
+            left = omega (arith, passed .left);
+            comes =
+                ap (λ (k : ℕ). checkLines k (passed .earlier ++ (j ∷ [])) (lines (drop (sixAt file at .second .to + 1) file))) (add-one n) ∙
+                sym (ap (λ (found : Found). onward n found
+                (λ i. checkLines (suc n) (passed .earlier ++ (i ∷ [])) (lines (drop (sixAt file at .second .to + 1) file)))) good) ∙
+                ap (checkLines n (passed .earlier)) (sym rest) ∙ passed .comes;
+            claimed = claim-next file claim at (sixAt file at .second .to + 1) six rest (passed .claimed);
+          },
+        )
 
 -- ---- counting lines
 

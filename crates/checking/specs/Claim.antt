@@ -1,24 +1,13 @@
 -- The claim of a derivation file: the context, the term and the type of its last line, as texts (REQUIREMENTS, Matching).
-use Prim.Native.Nat.{ℕ, zero, suc}
-use mathlib.Core.List.{List, [], _∷_}
+use Prim.Native.Nat.{ℕ}
+use mathlib.Core.List.{List, []}
 use Rattle.reading.specs.Reply.{Reply}
 use Rattle.slices.specs.Split.{lines, fields}
+use Rattle.derivation_files.specs.Claim.{lastLine, fieldBehind}
 use Rattle.fields.specs.Fields.{Texts}
 use Rattle.fields.specs.declared.Judged.{Judged}
 use Rattle.checking.specs.declared.Checked.{Checked}
 use Rattle.checking.specs.declared.Checking.{Checking}
-
--- the last line, empty where there is none
-abbrev pub lastLine : List (List ℕ) → List ℕ
-lastLine [] = []
-lastLine (line ∷ []) = line
-lastLine (line ∷ next ∷ rest) = lastLine (next ∷ rest)
-
--- the field behind that many others, empty where there is none
-abbrev pub fieldBehind : ℕ → List (List ℕ) → List ℕ
-fieldBehind n [] = []
-fieldBehind zero (field ∷ rest) = field
-fieldBehind (suc n) (field ∷ rest) = fieldBehind n rest
 
 -- the first three fields
 abbrev pub firstThree : List (List ℕ) → Texts

@@ -1,6 +1,4 @@
 // Checking derivation files; what they are and what is answered stands in derivation_files.
-mod line;
-
 ghost use mathlib.Core.Path.{_≡_};
 ghost use Prim.Native.Nat.{_≤_};
 ghost use mathlib.Core.List.{[]};
@@ -12,10 +10,11 @@ ghost use Rattle.derivation_files.specs.Checking.{checkLines, checkingOf};
 ghost use Rattle.fields.specs.Fields.{textsAt};
 ghost use Rattle.checking.specs.Answer.{answerOf};
 ghost use Rattle.checking.specs.Claim.{claimTexts, nowhere, refusalOf};
+use derivation_lines::Fault;
+use derivation_lines::check_line;
 use fields::Judged;
 use fields::six_at;
 use fields::texts::Span;
-use line::check_line;
 
 // What checking answers; specs/Answer.antt gives the number and the value of each case.
 pub enum Checking {
@@ -27,16 +26,8 @@ pub enum Checking {
     NoLineEnd,
     // The file has over 1,024 lines.
     TooManyLines,
-    // That line has not six fields.
-    NotSixFields(usize),
-    // The context, term or type field of that line is not well formed.
-    Malformed(usize),
-    // That line names no rule.
-    UnknownRule(usize),
-    // A premise field of that line is malformed, names no earlier line, or is not what its rule has there.
-    BadPremise(usize),
-    // That line is not an instance of its rule.
-    NoInstance(usize),
+    // What is wrong with the first bad line, and which that is.
+    BadLine(Fault, usize),
     // Every line follows; the number of lines.
     Accepted(usize),
 }
@@ -50,11 +41,7 @@ pub fn number(answer: Checking) -> u64
         Checking::FileEmpty => 11,
         Checking::NoLineEnd => 12,
         Checking::TooManyLines => 13,
-        Checking::NotSixFields(_) => 14,
-        Checking::Malformed(_) => 15,
-        Checking::UnknownRule(_) => 16,
-        Checking::BadPremise(_) => 17,
-        Checking::NoInstance(_) => 18,
+        Checking::BadLine(fault, _) => derivation_lines::number(fault),
         Checking::Accepted(_) => 0,
     }
 }
@@ -68,11 +55,7 @@ pub fn place(answer: Checking) -> usize
         Checking::FileEmpty => 0,
         Checking::NoLineEnd => 0,
         Checking::TooManyLines => 0,
-        Checking::NotSixFields(line) => line,
-        Checking::Malformed(line) => line,
-        Checking::UnknownRule(line) => line,
-        Checking::BadPremise(line) => line,
-        Checking::NoInstance(line) => line,
+        Checking::BadLine(_, line) => line,
         Checking::Accepted(_) => 0,
     }
 }
@@ -160,9 +143,9 @@ fn check_lines(file: &[u8]) -> Checked
     let mut claim = no_claim();
     while at < file.len() {
         let line = six_at(file, at);
-        let found = check_line(file, &starts, n, line);
-        if number(found) != 0 {
-            return refusal(found);
+        let fault = check_line(file, &starts, n, line);
+        if derivation_lines::number(fault) != 0 {
+            return refusal(Checking::BadLine(fault, n + 1));
         }
         starts[n] = at;
         n += 1;

@@ -9,7 +9,7 @@ use Rattle.calculus.specs.Run.{Outcome}
 use Rattle.reading.specs.Reply.{Reply, Refuses}
 use Rattle.stepping.specs.Stepping as stepping
 use Rattle.finishing.specs.Finishing as finishing
-use Rattle.comparing.specs.Comparing as comparing
+use Rattle.verdicts.specs.Comparing as comparing
 use Rattle.codes.specs.Encoding.{Parts, placeLimit, encode, outcomeCode, compareParts, matchParts}
 use Rattle.codes.specs.Decoding.{
   codePart,

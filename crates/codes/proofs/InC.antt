@@ -21,8 +21,8 @@ use Rattle.stepping.proofs.Calls as step
 use Rattle.finishing.specs.Finishing as finishing
 use Rattle.finishing.proofs.Calls as finish
 use Rattle.finishing.proofs.Lending.{held-size}
-use Rattle.comparing.specs.Comparing as comparing
-use Rattle.comparing.proofs.Calls as compare
+use Rattle.verdicts.specs.Comparing as comparing
+use Rattle.verdicts.proofs.Calls as compare
 use Rattle.derivation_files.specs.Checking.{checkingOf}
 use Rattle.derivation_files.proofs.Listed.{checking-refused}
 use Rattle.derivation_files.proofs.Files.{accepted-exactly}

@@ -1,74 +1,20 @@
--- A case of an answer's enum that is no answer is a refusal, and is coded as its number and its place. Assumes nothing.
-use mathlib.Core.Path.{_≡_, refl, sym, subst}
-use mathlib.Core.List.{List, [], _∷_}
-use types.Run.{OneOf, miss}
-use denote.Enum.Declared.{tagOf}
-use Rattle.reading.specs.Reply.{Reply, passedOn}
-use Rattle.reading.specs.Answer as reading
-use Rattle.reading.specs.declared.Reading.{Reading}
-use Rattle.reading.specs.declared.Reading.the-variants.{Whole, NoLetter, NotWhole, Beyond}
-use Rattle.reading.proofs.Reading.{the-type as Reading-type}
-use Rattle.stepping.specs.Answer as stepping
-use Rattle.stepping.specs.declared.Stepping.{Stepping}
-use Rattle.stepping.specs.declared.Stepping.the-variants as step
-use Rattle.stepping.proofs.Stepping.{the-type as Stepping-type}
-use Rattle.finishing.specs.Answer as finishing
-use Rattle.finishing.specs.declared.Admission.{Admission}
-use Rattle.finishing.specs.declared.Admission.the-variants as admission
-use Rattle.finishing.proofs.Admission.{the-type as Admission-type}
-use Rattle.comparing.specs.Answer as comparing
-use Rattle.comparing.specs.declared.Comparing.{Comparing}
-use Rattle.comparing.specs.declared.Comparing.the-variants as compare
-use Rattle.checking.specs.Answer as checking
-use Rattle.checking.specs.declared.Checking.{Checking}
-use Rattle.checking.specs.declared.Checking.the-variants as check
-use Rattle.checking.proofs.Checking.{the-type as Checking-type}
-use Rattle.matching.specs.Answer as matching
-use Rattle.matching.specs.declared.Matching.{Matching}
-use Rattle.matching.specs.declared.Matching.the-variants as match
+-- A refusal is coded as its number and its place. Assumes nothing.
+use Prim.Native.Nat.{ℕ}
+use mathlib.Core.Path.{_≡_, _∙_, refl, sym, ap, subst}
+use Rattle.reading.specs.Reply.{Reply, numberIn, placeIn, passedOn}
+use Rattle.codes.specs.Encoding.{Parts, encode, parts}
 
 -- a refusal is what is passed on of it
 abbrev pub Refusal : {X : Type 0} → Reply X → Type 0
 Refusal reply = reply ≡ passedOn reply
 
-pub reading-refusal : (a : Reading) → OneOf (1 ∷ 2 ∷ 3 ∷ []) (tagOf Reading-type a) → Refusal (reading.answerOf a)
-reading-refusal (Whole size) k = absurd (miss (1 ∷ 2 ∷ 3 ∷ []) 0 tt k)
-reading-refusal (NoLetter place) k = refl
-reading-refusal (NotWhole place) k = refl
-reading-refusal (Beyond place) k = refl
+pub refused-passed : {X : Type 0} {reply : Reply X} {n p : ℕ} → reply ≡ Reply.refused n p → Refusal reply
+refused-passed e = subst Refusal (sym e) refl
 
-pub stepping-refusal : (a : Stepping) → OneOf (0 ∷ 1 ∷ 2 ∷ 3 ∷ []) (tagOf Stepping-type a) → Refusal (stepping.answerOf a)
-stepping-refusal step.AreaTooLong k = refl
-stepping-refusal step.WorkTooShort k = refl
-stepping-refusal step.LengthTooLong k = refl
-stepping-refusal (step.Unread reading) k = refl
-stepping-refusal (step.Normal size) k = absurd (miss (0 ∷ 1 ∷ 2 ∷ 3 ∷ []) 4 tt k)
-stepping-refusal (step.NoRoom size) k = absurd (miss (0 ∷ 1 ∷ 2 ∷ 3 ∷ []) 5 tt k)
-stepping-refusal (step.Done rule size) k = absurd (miss (0 ∷ 1 ∷ 2 ∷ 3 ∷ []) 6 tt k)
-
-pub finishing-refusal : (a : Admission) → OneOf (0 ∷ 1 ∷ 2 ∷ 3 ∷ 4 ∷ []) (tagOf Admission-type a) → Refusal (finishing.replyOf a)
-finishing-refusal admission.AreaTooLong k = refl
-finishing-refusal admission.WorkTooShort k = refl
-finishing-refusal admission.LengthTooLong k = refl
-finishing-refusal admission.FuelTooHigh k = refl
-finishing-refusal (admission.Unread reading) k = refl
-finishing-refusal admission.Admitted k = absurd (miss (0 ∷ 1 ∷ 2 ∷ 3 ∷ 4 ∷ []) 5 tt k)
-
-pub checking-refusal :
-    (a : Checking) → OneOf (0 ∷ 1 ∷ 2 ∷ 3 ∷ 4 ∷ 5 ∷ 6 ∷ 7 ∷ 8 ∷ []) (tagOf Checking-type a) → Refusal (checking.answerOf a)
-checking-refusal check.FileTooLong k = refl
-checking-refusal check.FileEmpty k = refl
-checking-refusal check.NoLineEnd k = refl
-checking-refusal check.TooManyLines k = refl
-checking-refusal (check.NotSixFields line) k = refl
-checking-refusal (check.Malformed line) k = refl
-checking-refusal (check.UnknownRule line) k = refl
-checking-refusal (check.BadPremise line) k = refl
-checking-refusal (check.NoInstance line) k = refl
-checking-refusal (check.Accepted lines) k = absurd (miss (0 ∷ 1 ∷ 2 ∷ 3 ∷ 4 ∷ 5 ∷ 6 ∷ 7 ∷ 8 ∷ []) 9 tt k)
-
-pub comparing-refusal : {a : Comparing} {d : Admission} → a ≡ compare.Refused d → Refusal (comparing.answerOf a)
-comparing-refusal e = subst (λ (a : Comparing). Refusal (comparing.answerOf a)) (sym e) refl
-
-pub matching-refusal : {a : Matching} {d : Checking} → a ≡ match.Refused d → Refusal (matching.answerOf a)
-matching-refusal e = subst (λ (a : Matching). Refusal (matching.answerOf a)) (sym e) refl
+pub coded-refusal :
+    {X : Type 0} (answer : X → Parts) (reply : Reply X) → Refusal reply →
+    {n p : ℕ} → n ≡ numberIn reply → p ≡ placeIn reply → encode (Parts.wide n p) ≡ encode (parts answer reply)
+coded-refusal answer reply refusal {n} {p} number place =
+    ap (λ (m : ℕ). encode (Parts.wide m p)) number
+    ∙ ap (λ (q : ℕ). encode (Parts.wide (numberIn reply) q)) place
+    ∙ sym (ap (λ (r : Reply _). encode (parts answer r)) refusal)

@@ -11,7 +11,7 @@ use Rattle.reading.specs.Reply.{Reply}
 use Rattle.reading.specs.Reading.{readingOf}
 use Rattle.stepping.specs.Stepping as stepping
 use Rattle.finishing.specs.Finishing as finishing
-use Rattle.comparing.specs.Comparing as comparing
+use Rattle.verdicts.specs.Comparing as comparing
 use Rattle.derivation_files.specs.Checking.{checkingOf}
 use Rattle.matching.specs.Matching.{matchingOf}
 use Rattle.codes.specs.Encoding.{placeLimit, readNumber, checkNumber, matchNumber, codedStep, codedFinish, codedCompare}

@@ -6,7 +6,7 @@ use Rattle.calculus.specs.Run.{Outcome}
 use Rattle.reading.specs.Reply.{Reply}
 use Rattle.stepping.specs.Stepping as stepping
 use Rattle.finishing.specs.Finishing as finishing
-use Rattle.comparing.specs.Comparing as comparing
+use Rattle.verdicts.specs.Comparing as comparing
 
 -- ---- a code and what stands behind it
 

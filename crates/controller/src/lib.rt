@@ -3,7 +3,7 @@ ghost use mathlib.Core.Path.{_≡_};
 ghost use Rattle.reading.specs.Reading.{readingOf};
 ghost use Rattle.stepping.specs.Stepping.{steppingOf};
 ghost use Rattle.finishing.specs.Finishing.{finishingOf};
-ghost use Rattle.comparing.specs.Comparing.{comparingOf};
+ghost use Rattle.verdicts.specs.Comparing.{comparingOf};
 ghost use Rattle.derivation_files.specs.Checking.{checkingOf};
 ghost use Rattle.matching.specs.Matching.{matchingOf};
 ghost use Rattle.codes.specs.Encoding.{readNumber, checkNumber, matchNumber, codedStep, codedFinish, codedCompare};
@@ -13,7 +13,7 @@ ghost use Rattle.codes.specs.Encoding.{readNumber, checkNumber, matchNumber, co
 pub extern "C" fn controller_read(bytes: &[u8]) -> u64
     ensures { λ r. ⌜ r ≡ readNumber (readingOf (now (bytes .entry))) ⌝ }
 {
-    codes::read_number(reading::read(bytes))
+    term_numbers::read_number(reading::read(bytes))
 }
 
 // One step of the term in the first `term_size` bytes of the area.
@@ -22,7 +22,7 @@ pub extern "C" fn controller_step(area: &mut [u8], term_size: usize, work: &mut 
     ensures { λ r. ⌜ (r, now (area .exit), now (work .exit))
         ≡ codedStep (steppingOf (now (area .entry)) «term_size» (now (work .entry))) ⌝ }
 {
-    codes::step_number(stepping::step(area, term_size, work))
+    term_numbers::step_number(stepping::step(area, term_size, work))
 }
 
 // The run of the term in the first `term_size` bytes of the area.
@@ -39,7 +39,7 @@ pub extern "C" fn controller_finish(
     let finishing = finishing::finish(area, term_size, work, fuel);
     let admission = finishing.admission;
     let run = finishing.run;
-    codes::finish_number(admission, run)
+    term_numbers::finish_number(admission, run)
 }
 
 // Whether the terms in the first bytes of two areas have the same result.
@@ -55,7 +55,14 @@ pub extern "C" fn controller_compare(
     ensures { λ r. ⌜ (r, now (first .exit), now (second .exit), now (work .exit))
         ≡ codedCompare (comparingOf (now (first .entry)) «first_term» (now (second .entry)) «second_term» (now (work .entry)) fuel) ⌝ }
 {
-    codes::compare_number(comparing::compare(first, first_term, second, second_term, work, fuel))
+    term_numbers::compare_number(comparing::compare(
+        first,
+        first_term,
+        second,
+        second_term,
+        work,
+        fuel,
+    ))
 }
 
 // Whether each line of a derivation file follows.
@@ -63,7 +70,7 @@ pub extern "C" fn controller_compare(
 pub extern "C" fn controller_check(file: &[u8]) -> u64
     ensures { λ r. ⌜ r ≡ checkNumber (checkingOf (now (file .entry))) ⌝ }
 {
-    codes::check_number(checking::check_derivation(file))
+    file_numbers::check_number(checking::check_derivation(file))
 }
 
 // Whether the last lines of two derivation files claim the same context and type.
@@ -71,5 +78,5 @@ pub extern "C" fn controller_check(file: &[u8]) -> u64
 pub extern "C" fn controller_match(first: &[u8], second: &[u8]) -> u64
     ensures { λ r. ⌜ r ≡ matchNumber (matchingOf (now (first .entry)) (now (second .entry))) ⌝ }
 {
-    codes::match_number(matching::match_claims(first, second))
+    file_numbers::match_number(matching::match_claims(first, second))
 }

@@ -12,10 +12,10 @@ use lib.ListN.{length, getD, drop, drop-of-length-le}
 use lib.Seq.{drop-cons}
 use Rattle.slices.specs.Numeral.{digit0, isDigit, allDigits, valueFrom, someIf, decimalOf}
 use Rattle.slices.proofs.Decimal.{decimal-empty, decimal-zero, decimal-leading-zero, decimal-digits}
-use Rattle.decimals.specs.declared.read.Decimal.{Decimal}
-use Rattle.decimals.specs.declared.read.Decimal.the-variants.{Empty, Digits, Other}
-use Rattle.decimals.specs.declared.read.Parsed.{Parsed}
-use Rattle.decimals.specs.declared.read.Parsed.the-variants.{Number, NoNumber}
+use Rattle.decimals.specs.declared.Decimal.{Decimal}
+use Rattle.decimals.specs.declared.Decimal.the-variants.{Empty, Digits, Other}
+use Rattle.decimals.specs.declared.Parsed.{Parsed}
+use Rattle.decimals.specs.declared.Parsed.the-variants.{Number, NoNumber}
 use Rattle.decimals.specs.Parsed.{more, furtherIf, firstIf, fed, fedAll, stateOf, parsedOf, upTo}
 
 -- the state behind one byte more

@@ -7,10 +7,10 @@ use mathlib.Core.List.{List, [], _∷_}
 use mathlib.Core.Option.{Option, none, some}
 use lib.Dec.{eqb}
 use Rattle.slices.specs.Numeral.{digit0, isDigit}
-use Rattle.decimals.specs.declared.read.Decimal.{Decimal}
-use Rattle.decimals.specs.declared.read.Decimal.the-variants.{Empty, Zero, Digits, Other}
-use Rattle.decimals.specs.declared.read.Parsed.{Parsed}
-use Rattle.decimals.specs.declared.read.Parsed.the-variants.{Number, NoNumber}
+use Rattle.decimals.specs.declared.Decimal.{Decimal}
+use Rattle.decimals.specs.declared.Decimal.the-variants.{Empty, Zero, Digits, Other}
+use Rattle.decimals.specs.declared.Parsed.{Parsed}
+use Rattle.decimals.specs.declared.Parsed.the-variants.{Number, NoNumber}
 
 -- a number with one digit more behind it
 abbrev pub more : (cap n digit : ℕ) → ℕ

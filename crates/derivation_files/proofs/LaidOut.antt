@@ -20,7 +20,7 @@ use mathlib.Core.List.{
 use lib.ListN.{length, length-append}
 use native.Mathlib.Omega.{arith}
 use Rattle.calculus.specs.Typing.{Judgement, Name, Follows}
-use Rattle.calculus.specs.Derivation.{Among, Derivation, Derivable}
+use Rattle.calculus.specs.Derivation.{Among, Derivation}
 use Rattle.derivation_files.specs.Line.{Premise, Line, judgements}
 use Rattle.derivation_files.specs.Instance.{Premises}
 use Rattle.derivation_files.specs.Checking.{earlierLine}
@@ -142,7 +142,3 @@ laid-out {j} (Derivation.line {name} f among d) =
       accepted =
           λ few short. let (checked, claims) = complete (laid .listing) (laid .follow) some-line few short in (checked, claims j claim);
     }
-
--- every derivable judgement is the claim of lines that each follow
-pub derivable-listed : (j : Judgement) → Derivable j → (ls : List Line) × LinesFollow [] ls × (claimOf ls ≡ some j)
-derivable-listed j d = let laid = laid-out (d .derivation) in (laid .listed, laid .follow, laid .claim)

@@ -5,6 +5,7 @@ pub mod Numeral
 pub mod GoodLines
 pub mod FoundLines
 pub mod Bodies
+pub mod Claim
 pub mod Checks
 pub mod Listed
 pub mod Files

@@ -1,8 +1,8 @@
 -- What checking refuses: by 10 to 13 at line 0, by 14 to 18 at a line from 1 to the number of lines. Assumes nothing.
-use Prim.Native.Nat.{ℕ, suc, _+_, _≤_, min}
+use Prim.Native.Nat.{ℕ, suc, _+_, min}
 use native.Mathlib.Omega.{arith}
 use mathlib.Core.Path.{_≡_, refl, _∙_, ap, subst}
-use mathlib.Core.List.{List, _∷_, _++_, map, List·Memᴰ, List·Memᴰ·head, List·Memᴰ·tail}
+use mathlib.Core.List.{List, _∷_, map, List·Memᴰ, List·Memᴰ·head, List·Memᴰ·tail}
 use lib.ListN.{length, length-append, length-map}
 use Rattle.calculus.specs.Limits.{lineLimit}
 use Rattle.calculus.specs.Typing.{Judgement}

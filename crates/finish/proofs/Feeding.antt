@@ -7,7 +7,7 @@ use lib.ListN.{length, take}
 use lib.IntN.{ℤ, pos, negsuc}
 use Rattle.libc.specs.Io.{Moved}
 use Rattle.io.specs.Counts.{clamped}
-use Rattle.finish_line.specs.Fed.{State, fed}
+use Rattle.line_states.specs.State.{State, fed}
 use Rattle.finish.specs.Fed.{FedBy, FedFrom}
 
 -- as many bytes as the read answered, of a chunk that has room for them

@@ -5,7 +5,7 @@ use mathlib.Core.Path.{_≡_}
 use mathlib.Core.List.{List}
 use lib.ListN.{length}
 use lib.IntN.{ℤ, pos, negsuc}
-use Rattle.finish_line.specs.Fed.{State, fed}
+use Rattle.line_states.specs.State.{State, fed}
 
 -- a chunk of that many bytes, fed
 pub record Chunk (size : ℕ) (s t : State) : Type 0 where

@@ -1,9 +1,10 @@
 // The finishing program: one line from standard input, one line to standard output.
 // Where standard input cannot be read or standard output cannot be written, one line on standard error says so.
-use finish_line::Line;
+use line_states::Line;
 ghost use mathlib.Core.Path.{_≡_};
 ghost use Rattle.slices.specs.Put.{put, behind};
-ghost use Rattle.finish_line.specs.Fed.{state, startLine};
+ghost use Rattle.line_states.specs.Fed.{startLine};
+ghost use Rattle.line_states.specs.State.{state};
 ghost use Rattle.finish_line.specs.Answer.{askedOf};
 ghost use Rattle.answering.specs.Program.{unlessFailed};
 ghost use Rattle.answering.specs.Answer.{printedRun};
@@ -26,7 +27,7 @@ fn feed_some(line: Line, term: &mut [u8], got: &mut isize) -> Line
 fn feed_all(term: &mut [u8], failed: &mut bool) -> Line
     ensures { λ r. ⌜ FedFrom (state startLine (now (term .entry))) (state r (now (term .exit))) ⌝ }
 {
-    let mut line = finish_line::start();
+    let mut line = line_states::start();
     let mut got = 1;
     let mut turns = u64::MAX;
     while turns > 0 && got > 0 {

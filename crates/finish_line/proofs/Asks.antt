@@ -1,6 +1,6 @@
 -- A line that is fed the whole input, in chunks cut anywhere, asks for what `requestOf` says of the input, and its buffer holds the
 -- term's first bytes. Carried by what the line has reached (`reached`), field by field. Assumes nothing.
-use Prim.Native.Nat.{ℕ, _≤_, _<_, min}
+use Prim.Native.Nat.{ℕ, _≤_, min}
 use native.Mathlib.Omega.{arith}
 use mathlib.Core.Path.{_≡_, refl, sym, _∙_, ap, ap₂, subst}
 use mathlib.Core.Logic.{_↔_}
@@ -8,20 +8,20 @@ use mathlib.Core.Option.{Option, none, some}
 use mathlib.Core.List.{List, [], _∷_, _++_, append-nil}
 use lib.ListN.{length, take, length-take}
 use lib.Seq.{take-take, take-length}
-use Rattle.calculus.specs.Limits.{areaLimit, fuelLimit}
 use Rattle.slices.specs.Split.{lineFeed}
-use Rattle.finish_line.specs.declared.Line.{Line}
-use Rattle.finish_line.specs.declared.Line.the-variants.{InFuel, InArea, InTerm, Ended, Other}
+use Rattle.line_states.specs.declared.Line.{Line}
+use Rattle.line_states.specs.declared.Line.the-variants.{InFuel, InArea, InTerm, Ended, Other}
 use Rattle.finish_line.specs.declared.Asked.{Asked}
 use Rattle.finish_line.specs.declared.Asked.the-variants.{OtherShape, Request}
-use Rattle.finish_line.specs.Request.{requestOf}
-use Rattle.finish_line.specs.Request.{Request as Wanted}
-use Rattle.finish_line.specs.Fed.{fuelCap, lengthCap, State, state, fedByte, fed, startLine}
+use Rattle.line_states.specs.Request.{requestOf}
+use Rattle.line_states.specs.Request.{Request as Wanted}
+use Rattle.line_states.specs.Fed.{fuelCap, lengthCap, startLine}
+use Rattle.line_states.specs.State.{State, state, fedByte, fed}
 use Rattle.finish_line.specs.Answer.{askedOf}
-use Rattle.finish_line.specs.Kept.{keptIn}
-use Rattle.finish_line.proofs.Shape.{fuel-open, area-open, term-open, ended-asks}
-use Rattle.finish_line.proofs.Buffer.{kept-take}
-use Rattle.finish_line.proofs.Reached.{number-field, first-field, second-field, Reached, reached}
+use Rattle.line_states.specs.Kept.{keptIn}
+use Rattle.line_states.proofs.Shape.{fuel-open, area-open, term-open, ended-asks}
+use Rattle.line_states.proofs.Buffer.{kept-take}
+use Rattle.line_states.proofs.Reached.{number-field, first-field, second-field, Reached, reached}
 
 -- what an input that asks for so much leaves in the answer and in the buffer
 abbrev pub Answers : (buffer : List ℕ) → Option Wanted → Asked → (buffer′ : List ℕ) → Type 0
@@ -120,16 +120,3 @@ module _ (buffer : List ℕ) (chunks : List (List ℕ)) where
     -- a term that has room is there whole
     pub request-whole : length term ≤ lengthCap → length term ≤ length buffer → take (length term) (after .buffer) ≡ term
     request-whole counted room = request-read (length term) (omega arith) room ∙ take-length term
-
--- the caps change no reply: fuel up to its limit is exact and more stays more, and so with a length and the largest area
-pub fuel-exact : (fuel : ℕ) → fuel ≤ fuelLimit → min fuel fuelCap ≡ fuel
-fuel-exact fuel h = omega arith
-
-pub fuel-over : (fuel : ℕ) → fuelLimit < fuel → fuelLimit < min fuel fuelCap
-fuel-over fuel h = omega arith
-
-pub length-exact : (n : ℕ) → n ≤ areaLimit → min n lengthCap ≡ n
-length-exact n h = omega arith
-
-pub length-over : (area n : ℕ) → area ≤ areaLimit → area < n → area < min n lengthCap
-length-over area n h k = omega arith

@@ -5,8 +5,10 @@ use mathlib.Core.Path.{_≡_, sym, ap, ap₂, _∙_}
 use mathlib.Core.List.{List}
 use lib.ListN.{length, getD, drop, drop-of-length-le}
 use lib.Seq.{drop-cons}
-use Rattle.finish_line.specs.declared.Line.{Line}
-use Rattle.finish_line.specs.Fed.{fedLine, keptByte, state, fed}
+use Rattle.line_states.specs.declared.Line.{Line}
+use Rattle.line_states.specs.Fed.{fedLine}
+use Rattle.line_states.specs.Kept.{keptByte}
+use Rattle.line_states.specs.State.{state, fed}
 
 -- a turn feeds the byte at the index
 pub fed-turn : (chunk : List ℕ) (i : ℕ) (l l′ : Line) (t t′ : List ℕ) → i < length chunk

@@ -1,7 +1,7 @@
 -- What a line that has been fed its input asks for, and the number of input that asks for nothing (REQUIREMENTS, Programs).
 use Prim.Native.Nat.{ℕ}
-use Rattle.finish_line.specs.declared.Line.{Line}
-use Rattle.finish_line.specs.declared.Line.the-variants.{InFuel, InArea, InTerm, Ended, Other}
+use Rattle.line_states.specs.declared.Line.{Line}
+use Rattle.line_states.specs.declared.Line.the-variants.{InFuel, InArea, InTerm, Ended, Other}
 use Rattle.finish_line.specs.declared.Asked.{Asked}
 use Rattle.finish_line.specs.declared.Asked.the-variants.{OtherShape, Request}
 

@@ -1,5 +1,1 @@
-pub mod Request
-pub mod Fed
 pub mod Answer
-pub mod Kept
-pub mod Edges

@@ -1,44 +1,10 @@
 // The finishing program's line, read chunk by chunk.
-use decimals::Decimal;
-use decimals::Parsed;
+use line_states::Line;
 ghost use mathlib.Core.Path.{_≡_};
 ghost use lib.ListN.{set};
-ghost use Rattle.finish_line.specs.Request.{isAreaSize};
-ghost use Rattle.finish_line.specs.Fed.{state, fed, startLine, fedLine, isTermByte, keptAt, keptByte};
-ghost use Rattle.finish_line.specs.Fed.{inFuel, fuelRead, inArea, areaRead, inTerm, counted};
+ghost use Rattle.line_states.specs.Kept.{isTermByte, keptAt, keptByte};
+ghost use Rattle.line_states.specs.State.{state, fed};
 ghost use Rattle.finish_line.specs.Answer.{askedOf, numberOf};
-
-// The largest area size, and the least fuel, area size and term length that are refused whatever they are.
-const AREA_LIMIT: u64 = calculus::AREA_LIMIT as u64;
-
-const FUEL_CAP: u64 = calculus::FUEL_LIMIT + 1;
-
-const AREA_CAP: u64 = AREA_LIMIT + 1;
-
-const LENGTH_CAP: usize = calculus::AREA_LIMIT + 1;
-
-// The line so far, by the field that the next byte stands in. A number is kept up to its cap; the term's bytes are in a buffer that the
-// caller lends.
-pub enum Line {
-    InFuel(Decimal),
-    InArea {
-        fuel: u64,
-        number: Decimal,
-    },
-    InTerm {
-        fuel: u64,
-        area: usize,
-        length: usize,
-    },
-    // Behind the line feed.
-    Ended {
-        fuel: u64,
-        area: usize,
-        length: usize,
-    },
-    // Behind bytes of another shape.
-    Other,
-}
 
 // What the whole input asks for.
 pub enum Asked {
@@ -62,13 +28,6 @@ pub fn number(asked: Asked) -> u64
     }
 }
 
-// A line before its first byte.
-pub fn start() -> Line
-    ensures { λ r. ⌜ r ≡ startLine ⌝ }
-{
-    Line::InFuel(Decimal::Empty)
-}
-
 // Feeds a chunk of the input; the term's first bytes go into `term`, as many as fit, the first 16,385 at most.
 pub fn feed(line: Line, chunk: &[u8], term: &mut [u8]) -> Line
     ensures { λ r. ⌜ state r (now (term .exit)) ≡ fed (state line (now (term .entry))) (now (chunk .entry)) ⌝ }
@@ -78,7 +37,7 @@ pub fn feed(line: Line, chunk: &[u8], term: &mut [u8]) -> Line
     while i < chunk.len() {
         let b = chunk[i];
         keep(l, b, term);
-        l = fed_line(l, b);
+        l = line_states::fed_line(l, b);
         i += 1;
     }
     l
@@ -129,7 +88,7 @@ fn is_term_byte(length: usize, b: u8) -> bool
     if b == slices::TAB {
         return false;
     }
-    length < LENGTH_CAP
+    length < line_states::LENGTH_CAP
 }
 
 // Stores a byte at an index, where that is in range.
@@ -139,104 +98,4 @@ fn store(term: &mut [u8], at: usize, b: u8)
     if at < term.len() {
         term[at] = b;
     }
-}
-
-// The line with one byte more.
-fn fed_line(line: Line, b: u8) -> Line
-    ensures { λ r. ⌜ r ≡ fedLine line b ⌝ }
-{
-    match line {
-        Line::InFuel(number) => in_fuel(number, b),
-        Line::InArea { fuel, number } => in_area(fuel, number, b),
-        Line::InTerm { fuel, area, length } => in_term(fuel, area, length, b),
-        Line::Ended { .. } => Line::Other,
-        Line::Other => Line::Other,
-    }
-}
-
-// A byte of the fuel field, or the tab that ends it.
-fn in_fuel(number: Decimal, b: u8) -> Line
-    ensures { λ r. ⌜ r ≡ inFuel «number» b ⌝ }
-{
-    if b == slices::TAB {
-        return fuel_read(decimals::number(number));
-    }
-    Line::InFuel(decimals::feed(number, b, FUEL_CAP))
-}
-
-// The line behind the fuel field.
-fn fuel_read(parsed: Parsed) -> Line
-    ensures { λ r. ⌜ r ≡ fuelRead parsed ⌝ }
-{
-    let Parsed::Number(fuel) = parsed else {
-        return Line::Other;
-    };
-    Line::InArea {
-        fuel,
-        number: Decimal::Empty,
-    }
-}
-
-// A byte of the area field, or the tab that ends it.
-fn in_area(fuel: u64, number: Decimal, b: u8) -> Line
-    ensures { λ r. ⌜ r ≡ inArea fuel «number» b ⌝ }
-{
-    if b == slices::TAB {
-        return area_read(fuel, decimals::number(number));
-    }
-    Line::InArea {
-        fuel,
-        number: decimals::feed(number, b, AREA_CAP),
-    }
-}
-
-// The line behind the area field.
-fn area_read(fuel: u64, parsed: Parsed) -> Line
-    ensures { λ r. ⌜ r ≡ areaRead fuel parsed ⌝ }
-{
-    let Parsed::Number(area) = parsed else {
-        return Line::Other;
-    };
-    if is_area_size(area) {
-        return Line::InTerm {
-            fuel,
-            area: area as usize,
-            length: 0,
-        };
-    }
-    Line::Other
-}
-
-// Whether an area size is in range.
-fn is_area_size(n: u64) -> bool
-    ensures { λ r. ⌜ r ≡ isAreaSize n ⌝ }
-{
-    1 <= n && n <= AREA_LIMIT
-}
-
-// A byte of the term field, or the line feed that ends it.
-fn in_term(fuel: u64, area: usize, length: usize, b: u8) -> Line
-    ensures { λ r. ⌜ r ≡ inTerm fuel area «length» b ⌝ }
-{
-    if b == slices::LINE_FEED {
-        return Line::Ended { fuel, area, length };
-    }
-    if b == slices::TAB {
-        return Line::Other;
-    }
-    Line::InTerm {
-        fuel,
-        area,
-        length: one_longer(length),
-    }
-}
-
-// The length of a term with one byte more, at most the cap.
-fn one_longer(length: usize) -> usize
-    ensures { λ r. ⌜ r ≡ counted «length» ⌝ }
-{
-    if length < LENGTH_CAP {
-        return length + 1;
-    }
-    LENGTH_CAP
 }

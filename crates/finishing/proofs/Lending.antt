@@ -18,7 +18,7 @@ use Rattle.stepping.specs.Areas.{holding}
 use Rattle.stepping.specs.Held.{Holds}
 use Rattle.stepping.specs.Stepping.{Stepped, After, stepTo, stepNext, stepAdmitted, steppingOf}
 use Rattle.finishing.specs.Loop.{StepsOn}
-use Rattle.finishing.proofs.Admitting.{term-read}
+use Rattle.admission.proofs.Admitting.{term-read}
 
 -- the length is the size of the term
 pub held-size : {area : List ℕ} {len : ℕ} {t : Term} → Holds area len t → len ≡ size t

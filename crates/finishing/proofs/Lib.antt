@@ -1,6 +1,5 @@
 pub mod Calls
 pub mod Passing
-pub mod Admitting
 pub mod Stops
 pub mod Lending
 pub mod Loop

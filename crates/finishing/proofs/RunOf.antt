@@ -15,9 +15,10 @@ use Rattle.calculus.proofs.Runs.{run-runs, runs-run}
 use Rattle.calculus.proofs.Results.{results-equal, terms-keep-type}
 use Rattle.reading.specs.Reply.{Reply}
 use Rattle.stepping.specs.Held.{Holds}
-use Rattle.finishing.specs.Finishing.{After, admitted, ranFrom, finishAdmitted, finishingOf}
+use Rattle.admission.specs.Admission.{admitted}
+use Rattle.admission.proofs.Calls.{admitted-held}
+use Rattle.finishing.specs.Finishing.{ranFrom, finishAdmitted, finishingOf}
 use Rattle.finishing.specs.RunOf.{RunOf}
-use Rattle.finishing.proofs.Calls.{admitted-held}
 
 -- the run of a call that is not refused
 pub run-of : {area work : List ℕ} {len fuel : ℕ} {t : Term} → admitted area len work fuel ≡ Reply.answered t → RunOf area len work fuel t (run fuel (length area) t)

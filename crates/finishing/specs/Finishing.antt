@@ -1,14 +1,12 @@
 -- What finishing answers and leaves in the areas, for any call (REQUIREMENTS, Finishing).
 use Prim.Native.Nat.{ℕ}
 use mathlib.Core.List.{List}
-use lib.Dec.{ltb}
-use lib.ListN.{length, take}
-use Rattle.calculus.specs.Limits.{fuelLimit}
+use lib.ListN.{length}
 use Rattle.calculus.specs.Term.{Term, size}
 use Rattle.calculus.specs.Run.{Outcome, Run, run, outcome, count, reached}
-use Rattle.reading.specs.Reply.{Reply, refuseIf}
-use Rattle.reading.specs.Reading.{termRead}
-use Rattle.stepping.specs.Areas.{refusedAreas, holding, cleared}
+use Rattle.reading.specs.Reply.{Reply}
+use Rattle.stepping.specs.Areas.{holding, cleared}
+use Rattle.admission.specs.Admission.{admitted}
 
 -- the record of a run: its outcome, its count, and the size of the term reached
 pub data Ran : Type 0 where
@@ -17,15 +15,6 @@ pub data Ran : Type 0 where
 -- whether the call is refused, the record, and the two areas at exit
 pub data After : Type 0 where
   after : Reply Unit → Ran → (area work : List ℕ) → After
-
--- the term to finish, or the refusal
-abbrev pub admitted : (area : List ℕ) (len : ℕ) (work : List ℕ) (fuel : ℕ) → Reply Term
-admitted area len work fuel = refusedAreas area len work (refuseIf (ltb fuelLimit fuel) 4 (termRead (take len area)))
-
--- whether the call is refused
-abbrev pub admission : Reply Term → Reply Unit
-admission (Reply.refused number place) = Reply.refused number place
-admission (Reply.answered t) = Reply.answered tt
 
 abbrev pub recordOf : Term → Run → Ran
 recordOf t r = Ran.ran (outcome r) (count r) (size (reached t r))

@@ -6,7 +6,7 @@ use lib.ListN.{length}
 use Rattle.calculus.specs.Term.{Term}
 use Rattle.calculus.specs.Run.{Run, Runs}
 use Rattle.reading.specs.Reply.{Reply}
-use Rattle.finishing.specs.Finishing.{admitted}
+use Rattle.admission.specs.Admission.{admitted}
 
 -- `RunOf area len work fuel t r`: the call is not refused, its first len bytes are the text of t, and r is the run from t
 pub record RunOf (area : List ℕ) (len : ℕ) (work : List ℕ) (fuel : ℕ) (t : Term) (r : Run) : Type 0 where

@@ -1,33 +1,17 @@
 // Finishing: the run of the term in a lent area.
-use reading::Reading;
+use admission::Admission;
 use stepping::Stepping;
 ghost use mathlib.Core.Path.{_≡_};
 ghost use Prim.Native.Nat.{_≤_, _*_, min};
 ghost use lib.ListN.{length};
 ghost use Rattle.calculus.specs.Term.{Term};
 ghost use Rattle.calculus.specs.Run.{run};
-ghost use Rattle.reading.specs.Reply.{numberIn, placeIn};
 ghost use Rattle.stepping.specs.Held.{Holds};
 ghost use Rattle.stepping.specs.Answer.{answerOf};
-ghost use Rattle.finishing.specs.Finishing.{After, admitted, admission, finishingOf};
-ghost use Rattle.finishing.specs.Answer.{replyOf, ranOf};
+ghost use Rattle.admission.specs.Answer.{replyOf};
+ghost use Rattle.finishing.specs.Finishing.{After, finishingOf};
+ghost use Rattle.finishing.specs.Answer.{ranOf};
 ghost use Rattle.finishing.specs.Loop.{hasStop, Ready, StepsOn, Reaches};
-
-// Whether a call is refused; specs/Answer.antt gives the number and the place of each case.
-pub enum Admission {
-    // The term area is over 16,384 bytes.
-    AreaTooLong,
-    // The work area is shorter than the term area.
-    WorkTooShort,
-    // The length exceeds the term area.
-    LengthTooLong,
-    // The fuel is over 1,000,000.
-    FuelTooHigh,
-    // What reading refused, unaltered.
-    Unread(Reading),
-    // The call is not refused.
-    Admitted,
-}
 
 // How a run ends.
 pub enum Outcome {
@@ -47,57 +31,6 @@ pub struct Run {
 pub struct Finishing {
     pub admission: Admission,
     pub run: Run,
-}
-
-// The number of a refusal, 0 where the call is not refused.
-pub fn number(admission: Admission) -> u64
-    ensures { λ r. ⌜ r ≡ numberIn (replyOf admission) ⌝ }
-{
-    match admission {
-        Admission::AreaTooLong => 1,
-        Admission::WorkTooShort => 2,
-        Admission::LengthTooLong => 3,
-        Admission::FuelTooHigh => 4,
-        Admission::Unread(reading) => reading::number(reading),
-        Admission::Admitted => 0,
-    }
-}
-
-// The place of a refusal, 0 where the call is not refused.
-pub fn place(admission: Admission) -> usize
-    ensures { λ r. ⌜ r ≡ placeIn (replyOf admission) ⌝ }
-{
-    match admission {
-        Admission::AreaTooLong => 0,
-        Admission::WorkTooShort => 0,
-        Admission::LengthTooLong => 0,
-        Admission::FuelTooHigh => 0,
-        Admission::Unread(reading) => reading::place(reading),
-        Admission::Admitted => 0,
-    }
-}
-
-// Whether a call is refused; nothing is written.
-pub fn admit(area: &[u8], len: usize, work: &[u8], fuel: u64) -> Admission
-    ensures { λ r. ⌜ replyOf r ≡ admission (admitted (now (area .entry)) len (now (work .entry)) fuel) ⌝ }
-{
-    if calculus::AREA_LIMIT < area.len() {
-        return Admission::AreaTooLong;
-    }
-    if work.len() < area.len() {
-        return Admission::WorkTooShort;
-    }
-    if area.len() < len {
-        return Admission::LengthTooLong;
-    }
-    if calculus::FUEL_LIMIT < fuel {
-        return Admission::FuelTooHigh;
-    }
-    let reading = reading::read(&area[..len]);
-    let Reading::Whole(_) = reading else {
-        return Admission::Unread(reading);
-    };
-    Admission::Admitted
 }
 
 // How much of an area of `whole` bytes the next term can need: twice the size of the term, at most all of it.
@@ -172,7 +105,7 @@ pub fn finish(area: &mut [u8], len: usize, work: &mut [u8], fuel: u64) -> Finish
     ensures { λ r. ⌜ After.after (replyOf (r .admission)) (ranOf (r .run)) (now (area .exit)) (now (work .exit)) ≡ finishingOf (now (area .entry)) len (now (work .entry)) fuel ⌝ }
     ensures bounded { λ r. ⌜ r .run .count ≤ fuel ⌝ }
 {
-    let admission = admit(area, len, work, fuel);
+    let admission = admission::admit(area, len, work, fuel);
     let Admission::Admitted = admission else {
         return Finishing {
             admission,
@@ -185,7 +118,6 @@ pub fn finish(area: &mut [u8], len: usize, work: &mut [u8], fuel: u64) -> Finish
     };
     let run = run_term(area, len, work, fuel);
     let size = run.size;
-    slices::zero_from(area, size);
-    slices::zero_from(work, 0);
+    filling::clear(area, size, work);
     Finishing { admission, run }
 }

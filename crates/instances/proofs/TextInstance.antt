@@ -1,15 +1,14 @@
 -- On the texts of judgements the tests on texts are the tests on trees: a text that is a sign and two texts is read in one way only.
 -- Assumes nothing.
-use Prim.Native.Nat.{ℕ, _≤_}
+use Prim.Native.Nat.{ℕ}
 use native.Mathlib.Omega.{arith}
 use mathlib.Core.Path.{_≡_, refl, sym, _∙_, ap, ap₂}
 use mathlib.Core.Bool.{Bool, true, false, _&&_}
-use mathlib.Core.List.{List, [], _∷_, _++_, append-nil}
-use mathlib.Core.Option.{Option, none, some}
+use mathlib.Core.List.{List, [], _∷_, _++_}
+use mathlib.Core.Option.{none, some}
 use borrow.Author.Tests.{eq-eqb, ne-eqb}
-use lib.Dec.{eqb}
 use Rattle.slices.specs.Same.{same}
-use Rattle.slices.proofs.Same.{same-refl, equal-same, same-equal, same-unique}
+use Rattle.slices.proofs.Same.{equal-same, same-equal, same-unique}
 use Rattle.calculus.specs.Term.{Term, text}
 use Rattle.calculus.specs.Types.{Atom, Simple, Context, Ty, Sign, signText, simpleText, contextText, tyText}
 use Rattle.calculus.specs.Typing.{Judgement, Name}
@@ -18,14 +17,14 @@ use Rattle.types.specs.Tests.{isSimple}
 use Rattle.types.specs.Scan.{simpleEnd}
 use Rattle.types.proofs.Parse.{typeOf-text, types-readable, ty-injective, simple-not-context}
 use Rattle.types.proofs.Made.{arrow-text, bind-text}
-use Rattle.derivation_files.specs.Instance.{Premises, sameSimple, sameContext, sameTy, asksJ, asksR, asksH, asksA, asksI, asksB, asksS}
+use Rattle.derivation_files.specs.Instance.{Premises, sameContext, sameTy, asksJ, asksR, asksH, asksA, asksB, asksS}
 use Rattle.derivation_files.specs.Instance.{isInstance}
 use Rattle.derivation_files.specs.Checking.{premiseCount}
 use Rattle.rules.specs.Rules.{ruleOf}
 use Rattle.rules.specs.declared.Rule.{Rule}
 use Rattle.instances.specs.Behind.{simpleBehind}
 use Rattle.fields.specs.Fields.{Texts}
-use Rattle.instances.specs.TextInstance.{typeText, asksText, asksTextJ, asksTextR, asksTextH, asksTextA, asksTextI, asksTextB}
+use Rattle.instances.specs.TextInstance.{typeText, asksText, asksTextJ, asksTextR, asksTextH, asksTextA, asksTextB}
 use Rattle.instances.specs.TextInstance.{asksTextS, instanceText}
 use Rattle.slices.proofs.Decimal.{and-both}
 use Rattle.fields.proofs.Joined.{differ}

@@ -8,7 +8,7 @@ use mathlib.Core.List.{List}
 use Rattle.reading.specs.Reply.{Reply}
 use Rattle.slices.specs.Split.{lines}
 use Rattle.derivation_files.specs.Checking.{checkingOf}
-use Rattle.checking.specs.Claim.{lastLine}
+use Rattle.derivation_files.specs.Claim.{lastLine}
 use Rattle.matching.specs.Matching.{sameClaim, afterBoth, matchingOf}
 
 pub match-refused :

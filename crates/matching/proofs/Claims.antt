@@ -1,50 +1,32 @@
--- Accepted files match exactly when the contexts and the types of their claims are equal. Carried by the laws that a file is cut into its
--- lines and a line into its fields, and that contexts and types of the same text are the same. Assumes nothing.
+-- Accepted files match exactly when the contexts and the types of their claims are equal. Carried by the law that the last line's fields
+-- are the texts of the claim, and that contexts and types of the same text are the same. Assumes nothing.
 use Prim.Native.Nat.{ℕ}
 use mathlib.Core.Path.{_≡_, refl, sym, _∙_, ap, ap₂}
 use mathlib.Core.Logic.{_↔_}
 use mathlib.Core.Bool.{Bool, true, false, _&&_, false≢true}
-use mathlib.Core.List.{List, [], _∷_, _++_}
-use mathlib.Core.Option.{some, Option·none-ne-some}
+use mathlib.Core.List.{List}
 use Rattle.calculus.specs.Term.{Term}
 use Rattle.calculus.specs.Types.{Context, Ty, contextText, tyText}
 use Rattle.calculus.specs.Typing.{Judgement}
 use Rattle.types.proofs.Parse.{ty-injective, context-injective}
 use Rattle.reading.specs.Reply.{Reply}
 use Rattle.slices.specs.Same.{same}
-use Rattle.slices.specs.Split.{lines, fields}
+use Rattle.slices.specs.Split.{lines}
 use Rattle.slices.proofs.Same.{same-equal, equal-same}
-use Rattle.derivation_files.specs.Line.{Line}
 use Rattle.derivation_files.specs.Checking.{checkingOf}
-use Rattle.derivation_files.specs.Accepted.{claimOf, Claims}
-use Rattle.derivation_files.proofs.GoodLines.{judgementFields, restFields, fields-body}
-use Rattle.derivation_files.proofs.Bodies.{bodies, lines-file}
+use Rattle.derivation_files.specs.Accepted.{Claims}
+use Rattle.derivation_files.specs.Claim.{lastLine}
+use Rattle.derivation_files.proofs.Claim.{claim-fields}
 use Rattle.derivation_files.proofs.Files.{accepted-exactly}
-use Rattle.checking.specs.Claim.{lastLine, fieldBehind}
 use Rattle.matching.specs.Matching.{contextField, typeField, sameClaim, afterBoth, matchingOf}
 
 -- ---- the claim of one file
-
--- the last line's fields begin with those of the claim
-last-fields :
-    (ls : List Line) (j : Judgement) → claimOf ls ≡ some j →
-    (rest : List (List ℕ)) × (fields (lastLine (bodies ls)) ≡ judgementFields j ++ rest)
-last-fields [] j e = absurd (Option·none-ne-some _ e)
-last-fields (l ∷ []) j e =
-    let claim : l .judgement ≡ j = cc in
-    (restFields l, fields-body l ∙ ap (λ (k : Judgement). judgementFields k ++ restFields l) claim)
-last-fields (l ∷ next ∷ ls) j e = last-fields (next ∷ ls) j e
 
 -- the texts compared are those of the claim's context and type
 pub claim-texts :
     {file : List ℕ} {G : Context} {t : Term} {W : Ty} → Claims file (Judgement.judge G t W) →
     (contextField (lastLine (lines file)) ≡ contextText G) × (typeField (lastLine (lines file)) ≡ tyText W)
-claim-texts {file} {G} {t} {W} c =
-    let (rest, found) = last-fields (c .accepted .listed) (Judgement.judge G t W) (c .claim) in
-    let cut : fields (lastLine (lines file)) ≡ judgementFields (Judgement.judge G t W) ++ rest =
-    ap (λ (s : List ℕ). fields (lastLine (lines s))) (c .accepted .written)
-    ∙ ap (λ (ps : List (List ℕ)). fields (lastLine ps)) (lines-file (c .accepted .listed)) ∙ found in
-    (ap (fieldBehind 0) cut, ap (fieldBehind 2) cut)
+claim-texts c = (claim-fields c .0, claim-fields c .2)
 
 -- a file with a claim is not refused
 claim-answered : {file : List ℕ} {j : Judgement} (c : Claims file j) → checkingOf file ≡ Reply.answered (c .lines)

@@ -1,7 +1,7 @@
 -- From what checking answered of both files, and the texts of their claims, to the reply: each way out of `match_claims` as one law.
 -- Assumes nothing.
 use Prim.Native.Nat.{ℕ}
-use mathlib.Core.Path.{_≡_, refl, sym, _∙_, ap, ap₂}
+use mathlib.Core.Path.{_≡_, sym, _∙_, ap, ap₂}
 use mathlib.Core.Bool.{Bool}
 use mathlib.Core.List.{List, [], _∷_}
 use types.Run.{OneOf}
@@ -15,7 +15,8 @@ use Rattle.checking.specs.declared.Checking.the-variants.{Accepted}
 use Rattle.checking.proofs.Checking.{the-type}
 use Rattle.checking.proofs.Refused.{refused-reply}
 use Rattle.fields.specs.Fields.{Texts}
-use Rattle.checking.specs.Claim.{lastLine, claimTexts}
+use Rattle.derivation_files.specs.Claim.{lastLine}
+use Rattle.checking.specs.Claim.{claimTexts}
 use Rattle.matching.specs.Matching.{sameClaim, sameTexts, afterBoth, matchingOf}
 
 -- ---- two files
@@ -27,7 +28,7 @@ module _ (first second : List ℕ) where
   -- the first file is refused
   pub first-refused :
       (found : Checking) → checking.answerOf found ≡ checkingOf first →
-      OneOf (0 ∷ 1 ∷ 2 ∷ 3 ∷ 4 ∷ 5 ∷ 6 ∷ 7 ∷ 8 ∷ []) (tagOf the-type found) →
+      OneOf (0 ∷ 1 ∷ 2 ∷ 3 ∷ 4 ∷ []) (tagOf the-type found) →
       passedOn (checking.answerOf found) ≡ matchingOf first second
   unfolding matchingOf
   first-refused found said k =
@@ -41,7 +42,7 @@ module _ (first second : List ℕ) where
     -- the first is not, and the second is
     pub second-refused :
         (other : Checking) → checking.answerOf other ≡ checkingOf second →
-        OneOf (0 ∷ 1 ∷ 2 ∷ 3 ∷ 4 ∷ 5 ∷ 6 ∷ 7 ∷ 8 ∷ []) (tagOf the-type other) →
+        OneOf (0 ∷ 1 ∷ 2 ∷ 3 ∷ 4 ∷ []) (tagOf the-type other) →
         passedOn (checking.answerOf other) ≡ matchingOf first second
     unfolding matchingOf
     second-refused other is k =

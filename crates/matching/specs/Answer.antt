@@ -1,5 +1,4 @@
 -- The number and the word of each case of matching's answer (REQUIREMENTS, Matching). A refusal is checking's own.
-use Prim.Native.Nat.{ℕ}
 use mathlib.Core.Bool.{Bool, true, false}
 use Rattle.reading.specs.Reply.{Reply, passedOn}
 use Rattle.checking.specs.Answer as checking

@@ -7,8 +7,8 @@ use Rattle.reading.specs.Reply.{Reply}
 use Rattle.slices.specs.Same.{same}
 use Rattle.slices.specs.Split.{lines, fields}
 use Rattle.derivation_files.specs.Checking.{checkingOf}
+use Rattle.derivation_files.specs.Claim.{lastLine, fieldBehind}
 use Rattle.fields.specs.Fields.{Texts}
-use Rattle.checking.specs.Claim.{lastLine, fieldBehind}
 
 -- the first field of a line
 abbrev pub contextField : List ℕ → List ℕ

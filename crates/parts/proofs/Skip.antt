@@ -1,6 +1,6 @@
 -- The laws of `skip` and `endAt`: terms one behind the other are skipped one after the other, a letter is skipped with the terms that
 -- it takes, and the text of a term takes as many bytes as the term is large. Assumes nothing.
-use Prim.Native.Nat.{ℕ, zero, suc, _+_, _-_, _≤_, _<_}
+use Prim.Native.Nat.{ℕ, zero, suc, _+_, _≤_, _<_}
 use native.Mathlib.Nat.{zero-add, suc-add}
 use native.Mathlib.Numerals.{add-one}
 use native.Mathlib.Omega.{arith}

@@ -10,7 +10,7 @@ use lib.Dec.{leb, ltb, eqb}
 use lib.ListN.{length, getD}
 use Rattle.calculus.specs.Limits.{lineLimit}
 use Rattle.slices.specs.Numeral.{digit0, allDigits, valueFrom, someIf, numberOf, zeroOr, isZero, decimalOf}
-use Rattle.derivation_files.specs.Line.{Premise, premiseOr, isDash, premiseOf}
+use Rattle.derivation_files.specs.Line.{premiseOr, isDash, premiseOf}
 use Rattle.premises.specs.declared.Cited.{Cited}
 use Rattle.premises.specs.declared.Cited.the-variants.{Dash, Line, Nothing}
 use Rattle.premises.specs.Cited.{upTo, lineIf, citedOf, isLine, citedFit}

@@ -2,11 +2,12 @@
 use Prim.Native.Nat.{ℕ}
 use mathlib.Core.List.{List, [], _∷_, _++_}
 use Rattle.slices.specs.Numeral.{decimal}
+use Rattle.slices.specs.Split.{tab, lineFeed}
 
 abbrev pub rowOf : List (List ℕ) → List ℕ
-rowOf [] = 10 ∷ []
-rowOf (field ∷ []) = field ++ (10 ∷ [])
-rowOf (field ∷ next ∷ fields) = field ++ (9 ∷ rowOf (next ∷ fields))
+rowOf [] = lineFeed ∷ []
+rowOf (field ∷ []) = field ++ (lineFeed ∷ [])
+rowOf (field ∷ next ∷ fields) = field ++ (tab ∷ rowOf (next ∷ fields))
 
 -- a word, a number and further bytes
 abbrev pub lineOf : (word : List ℕ) (number : ℕ) (rest : List ℕ) → List ℕ

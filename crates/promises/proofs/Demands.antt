@@ -1,19 +1,17 @@
 -- The demands hold: each by the cases of a call, which `Calls` of each operation's crate has, and by what holds of every run. Assumes nothing.
-use Prim.Native.Nat.{ℕ, _≤_, _<_}
-use mathlib.Core.Path.{_≡_, refl, sym, _∙_, ap, ap₂, subst, subst₂}
+use Prim.Native.Nat.{ℕ, _<_}
+use mathlib.Core.Path.{_≡_, refl, sym, _∙_, ap, subst, subst₂}
 use mathlib.Core.Logic.{_↔_, _⊎_, inl, inr, ⊎-elim}
-use mathlib.Core.List.{List, [], _∷_}
+use mathlib.Core.List.{List}
 use lib.ListN.{length, take}
 use lib.Seq.{take-at}
-use native.Mathlib.Omega.{arith}
-use Rattle.calculus.specs.Typing.{Judgement}
 use Rattle.calculus.specs.Term.{Term, text, size, Normal}
 use Rattle.calculus.specs.Order.{Step}
 use Rattle.calculus.specs.Turning.{Turn}
-use Rattle.calculus.specs.Run.{Outcome, Run, run, reached}
+use Rattle.calculus.specs.Run.{Outcome, run, reached}
 use Rattle.calculus.proofs.PrefixCode.{length-text}
 use Rattle.reading.specs.Reply.{Reply}
-use Rattle.reading.specs.Reading.{readingOf, ReadsAs}
+use Rattle.reading.specs.Reading.{ReadsAs}
 use Rattle.reading.proofs.Numbers.{reading-refused}
 use Rattle.reading.proofs.Whole.{reads-as, reads-as-only}
 use Rattle.stepping.specs.Areas.{holding, cleared}
@@ -23,9 +21,8 @@ use Rattle.stepping.proofs.Calls as step
 use Rattle.finishing.specs.Finishing as finishing
 use Rattle.finishing.proofs.Calls as finish
 use Rattle.finishing.proofs.RunOf.{run-of, run-finishes, results-exactly, run-keeps}
-use Rattle.comparing.specs.Comparing as comparing
-use Rattle.comparing.proofs.Calls as compare
-use Rattle.derivation_files.specs.Checking.{checkingOf}
+use Rattle.verdicts.specs.Comparing as comparing
+use Rattle.verdicts.proofs.Calls as compare
 use Rattle.derivation_files.specs.Checks.{ChecksAs}
 use Rattle.derivation_files.proofs.Listed.{checking-refused}
 use Rattle.derivation_files.proofs.Files.{accepted-exactly, claim-unique, claimed, accepted-derivable}

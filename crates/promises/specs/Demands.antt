@@ -8,7 +8,7 @@ use mathlib.Core.Bool.{true}
 use mathlib.Core.Logic.{_↔_, _⊎_}
 use mathlib.Core.List.{List, [], _∷_, List·Memᴰ}
 use lib.ListN.{length, take}
-use Rattle.calculus.specs.Limits.{areaLimit, fileLimit, lineLimit}
+use Rattle.calculus.specs.Limits.{areaLimit, lineLimit}
 use Rattle.calculus.specs.Term.{Term, text, size, Normal}
 use Rattle.calculus.specs.Order.{Step}
 use Rattle.calculus.specs.Turning.{Turn}
@@ -24,8 +24,7 @@ use Rattle.stepping.specs.Held.{Holds}
 use Rattle.stepping.specs.Stepping as stepping
 use Rattle.finishing.specs.Finishing as finishing
 use Rattle.finishing.specs.RunOf.{RunOf}
-use Rattle.comparing.specs.Comparing as comparing
-use Rattle.derivation_files.specs.Line.{fileText}
+use Rattle.verdicts.specs.Comparing as comparing
 use Rattle.derivation_files.specs.Checking.{checkingOf}
 use Rattle.derivation_files.specs.Checks.{ChecksAs}
 use Rattle.derivation_files.specs.Accepted.{Accepted, Claims}

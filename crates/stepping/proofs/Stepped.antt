@@ -16,11 +16,6 @@ use Rattle.calculus.specs.Order.{Next, next}
 use Rattle.calculus.specs.Parse.{termOf}
 use Rattle.calculus.proofs.PrefixCode.{length-text, termOf-text}
 use Rattle.slices.specs.Find.{indexOf}
-use Rattle.slices.specs.Part.{part}
-use Rattle.slices.specs.Put.{put, behind}
-use Rattle.slices.specs.Wrote.{Wrote}
-use Rattle.slices.proofs.Put.{behind-fits}
-use Rattle.slices.proofs.Wrote.{wrote-put, wrote-piece, wrote-zeros}
 use Rattle.reading.specs.Reply.{Reply}
 use Rattle.reading.specs.Reading.{readingOf, orRefusal, termRead}
 use Rattle.reading.proofs.Whole.{whole-term, refused-none}
@@ -30,10 +25,9 @@ use Rattle.redexes.proofs.Moves.{spot-laid, move-stays}
 use Rattle.redexes.proofs.Found.{spot-within, search-found}
 use Rattle.rewriting.specs.declared.Rewrite.{Rewrite}
 use Rattle.rewriting.specs.Rewriting.{rewriteOf}
-use Rattle.rewriting.specs.Text.{piecesOf, rewritten}
+use Rattle.rewriting.specs.Text.{rewritten}
 use Rattle.rewriting.proofs.Rules.{fires}
-use Rattle.writing.specs.PutAll.{putAll, behindAll}
-use Rattle.writing.proofs.Pieces.{wrote-all}
+use Rattle.writing.specs.Back.{Back}
 use Rattle.stepping.specs.Areas.{holding, cleared}
 use Rattle.stepping.specs.Held.{Holds}
 use Rattle.stepping.specs.Stepping.{Stepped, After, stepTo, stepNext, stepAdmitted, steppingOf}
@@ -82,19 +76,6 @@ found-makes {t} {r} found n =
       grows = omega (arith, fired .grows);
       exact = λ k. omega (arith, fired .exact k);
     }
-
--- ---- what is written and cleared
-
--- the new term, put at the front of the area, and zeros behind it
-pub holding-put :
-    (n : ℕ) (work area area₁ area₂ : List ℕ) → area₁ ≡ put 0 (part 0 n work) area → area₂ ≡ take n area₁ ++ replicate (length area₁ - n) 0 →
-    (t : Term) (old : List ℕ) → Wrote 0 n (text t) old work → n ≤ length area → area₂ ≡ holding t area
-holding-put n work area area₁ area₂ e z t old w h =
-    let size-is : n ≡ size t = omega (arith, w .ends, length-text t) in
-    let fits : 0 + length (text t) ≤ length area = omega (arith, w .ends) in
-    let put-is : area₁ ≡ put 0 (text t) area = e ∙ ap (λ (l : List ℕ). put 0 l area) (wrote-piece w) in
-    let moved : n ≡ behind 0 (text t) area = w .ends ∙ sym (behind-fits 0 (text t) area fits) in
-    wrote-zeros (wrote-put 0 (text t) area fits put-is moved) z ∙ ap (λ (m : ℕ). text t ++ replicate (length area - m) 0) size-is
 
 -- ---- the ways out of `advance`
 
@@ -149,27 +130,23 @@ module _ {area : List ℕ} {len : ℕ} {t : Term} (h : Holds area len t) where
 
       -- where it fits
       pub after-step :
-          {g n : ℕ} {work₁ area′ work′ : List ℕ} → g ≡ w .again .to - w .again .from → g ≤ length area - len → length area ≤ length work →
-          work₁ ≡ putAll 0 (piecesOf w (take len area)) work → n ≡ behindAll 0 (piecesOf w (take len area)) work →
-          ((t : Term) (old : List ℕ) → Wrote 0 n (text t) old work₁ → n ≤ length area → area′ ≡ holding t area) →
-          work′ ≡ cleared work₁ →
-          After.after (Reply.answered (Stepped.stepped (w .rule) n)) area′ work′ ≡ stepNext t (next t) area work
-      after-step {g} {n} {work₁} e q m put behind back c =
+          {g n : ℕ} {area′ work′ : List ℕ} → g ≡ w .again .to - w .again .from → g ≤ length area - len → length area ≤ length work →
+          (length (rewritten w (take len area)) ≤ length area → length (rewritten w (take len area)) ≤ length work →
+          Back (rewritten w (take len area)) area n area′) →
+          work′ ≡ cleared work → After.after (Reply.answered (Stepped.stepped (w .rule) n)) area′ work′ ≡ stepNext t (next t) area work
+      after-step {g} {n} e q m back c =
           let u = makes .reduct in
-          let pieces = piecesOf w (take len area) in
           let small : size u ≤ length area = omega (arith, makes .grows, held-size, h .within) in
           let spelt : rewritten w (take len area) ≡ text u = ap (rewritten w) (h .written) ∙ makes .spelt in
-          let wrote = wrote-all pieces work (omega (arith, ap length spelt, length-text u)) in
-          let new : Wrote 0 n (text u) work work₁ =
-          subst (λ (l : List ℕ). Wrote 0 n l work work₁) spelt
-          (subst (λ (k : ℕ). Wrote 0 k (rewritten w (take len area)) work work₁) (sym behind)
-          (subst (Wrote 0 (behindAll 0 pieces work) (rewritten w (take len area)) work) (sym put) wrote)) in
-          let count : n ≡ size u = omega (arith, new .ends, length-text u) in
+          let long : length (rewritten w (take len area)) ≡ size u = ap length spelt ∙ length-text u in
+          let written = back (omega arith) (omega arith) in
           ap₂
           (λ (x y : List ℕ). After.after (Reply.answered (Stepped.stepped (w .rule) n)) x y)
-          (back u work new (omega arith))
-          (c ∙ ap (λ (l : ℕ). replicate l 0) (new .size))
-          ∙ ap (λ (l : ℕ). After.after (Reply.answered (Stepped.stepped (w .rule) l)) (holding u area) (cleared work)) count
+          (written .left ∙ ap₂ (λ (l : List ℕ) (k : ℕ). l ++ replicate (length area - k) 0) spelt long)
+          c
+          ∙ ap
+          (λ (k : ℕ). After.after (Reply.answered (Stepped.stepped (w .rule) k)) (holding u area) (cleared work))
+          (written .ends ∙ long)
           ∙ sym (next-step ∙ ap (λ (b : Bool). stepTo b t (w .rule) u area work) (le-leb _ _ small))
 
 -- ---- the ways out of `step`

@@ -1,18 +1,16 @@
 // Stepping: one step of the term in a lent area.
+use filling::clear;
 use reading::Reading;
 use redexes::redex;
 use rewriting::growth;
 use rewriting::rewrite_at;
-use writing::write;
+use writing::write_back;
 ghost use mathlib.Core.Path.{_≡_};
-ghost use mathlib.Core.List.{List, _++_};
-ghost use Prim.Native.Nat.{ℕ, _-_, _≤_};
-ghost use lib.ListN.{length, take, replicate};
-ghost use Rattle.calculus.specs.Term.{Term, text};
+ghost use Prim.Native.Nat.{_≤_};
+ghost use lib.ListN.{length};
+ghost use Rattle.calculus.specs.Term.{Term};
 ghost use Rattle.calculus.specs.Order.{next};
 ghost use Rattle.reading.specs.Reply.{numberIn, placeIn};
-ghost use Rattle.slices.specs.Wrote.{Wrote};
-ghost use Rattle.stepping.specs.Areas.{holding};
 ghost use Rattle.stepping.specs.Held.{Holds};
 ghost use Rattle.stepping.specs.Stepping.{After, stepNext, steppingOf};
 ghost use Rattle.stepping.specs.Answer.{answerOf};
@@ -44,44 +42,18 @@ pub fn number(answer: Stepping) -> u64
         Stepping::WorkTooShort => 2,
         Stepping::LengthTooLong => 3,
         Stepping::Unread(reading) => reading::number(reading),
-        Stepping::Normal(_) => 0,
-        Stepping::NoRoom(_) => 0,
-        Stepping::Done(_, _) => 0,
+        Stepping::Normal(_) | Stepping::NoRoom(_) | Stepping::Done(_, _) => 0,
     }
 }
 
-// The place of a refusal, 0 of an answer.
+// The place of a refusal, 0 of an answer and of what is refused without a place.
 pub fn place(answer: Stepping) -> usize
     ensures { λ r. ⌜ r ≡ placeIn (answerOf answer) ⌝ }
 {
-    match answer {
-        Stepping::AreaTooLong => 0,
-        Stepping::WorkTooShort => 0,
-        Stepping::LengthTooLong => 0,
-        Stepping::Unread(reading) => reading::place(reading),
-        Stepping::Normal(_) => 0,
-        Stepping::NoRoom(_) => 0,
-        Stepping::Done(_, _) => 0,
-    }
-}
-
-// Zeros behind the term, which takes the first `size` bytes, and in the whole work area.
-fn clear(area: &mut [u8], size: usize, work: &mut [u8])
-    ensures { λ _. ⌜ now (area .exit) ≡ take size (now (area .entry)) ++ replicate (length (now (area .entry)) - size) 0 ⌝ }
-    ensures { λ _. ⌜ now (work .exit) ≡ replicate (length (now (work .entry))) 0 ⌝ }
-{
-    slices::zero_from(area, size);
-    slices::zero_from(work, 0);
-}
-
-// Moves the new term, the first `size` bytes of the work area, to the term area, with zeros behind it and in the work area.
-fn put_back(area: &mut [u8], size: usize, work: &mut [u8])
-    ensures { λ _. ⌜ ((t : Term) (old : List ℕ) → Wrote 0 size (text t) old (now (work .entry)) → size ≤ length (now (area .entry))
-        → now (area .exit) ≡ holding t (now (area .entry))) ⌝ }
-    ensures { λ _. ⌜ now (work .exit) ≡ replicate (length (now (work .entry))) 0 ⌝ }
-{
-    slices::append(work, 0, size, area, 0);
-    clear(area, size, work);
+    let Stepping::Unread(reading) = answer else {
+        return 0;
+    };
+    reading::place(reading)
 }
 
 // One step of the term in the first `len` bytes, or what keeps it from one.
@@ -100,8 +72,7 @@ fn advance(area: &mut [u8], len: usize, work: &mut [u8]) -> Stepping
         clear(area, len, work);
         return Stepping::NoRoom(len);
     }
-    let size = write(&area[..len], w, work);
-    put_back(area, size, work);
+    let size = write_back(area, len, w, work);
     Stepping::Done(w.rule, size)
 }
 

@@ -4,7 +4,7 @@ use Prim.Native.Nat.{ℕ, zero, suc, _+_, _-_, _<_, _≤_}
 use native.Mathlib.Numerals.{add-one}
 use native.Mathlib.Omega.{arith}
 use mathlib.Core.Path.{_≡_, refl, sym, _∙_, ap}
-use mathlib.Core.Bool.{Bool, true, false, _||_}
+use mathlib.Core.Bool.{Bool, true, false}
 use mathlib.Core.List.{List, [], _∷_}
 use mathlib.Core.Option.{Option, none, some}
 use borrow.Author.Tests.{eq-eqb, ne-eqb, eqb-true, eqb-false}
@@ -12,12 +12,11 @@ use lib.Dec.{eqb}
 use lib.ListN.{length, getD, drop, drop-of-length-le, length-drop}
 use lib.Seq.{drop-cons, drop-drop}
 use native.Mathlib.Decide.{decLe}
-use Rattle.calculus.specs.Types.{Sign, Simple, Context, Ty}
+use Rattle.calculus.specs.Types.{Sign, Ty}
 use Rattle.types.specs.Signs.{atomIf, chosen, signOf, consSign, signsOf}
 use Rattle.types.specs.Parse.{Item, pushArrow, pushBind, push, items, single, typeOfSigns, typeOf, onlyContext, contextOf}
 use Rattle.types.specs.Tests.{isSome, isSimple}
 use Rattle.types.specs.Scan.{behindSign, behindSimple, indexOf, simpleEnd}
-use Rattle.types.proofs.Scan.{nothing-owed}
 
 -- the items are that many simple types and, behind them, a context if the flag says so, and no more
 abbrev pub fits : (simples : ℕ) (context : Bool) → List Item → Bool

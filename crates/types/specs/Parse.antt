@@ -5,7 +5,7 @@
 use Prim.Native.Nat.{ℕ}
 use mathlib.Core.List.{List, [], _∷_}
 use mathlib.Core.Option.{Option, none, some}
-use Rattle.calculus.specs.Types.{Atom, Simple, Context, Ty, Sign}
+use Rattle.calculus.specs.Types.{Simple, Context, Ty, Sign}
 use Rattle.types.specs.Signs.{signsOf}
 
 pub data Item : Type 0 where

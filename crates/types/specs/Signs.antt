@@ -6,7 +6,7 @@ use mathlib.Core.Option.{Option, none, some}
 use native.Mathlib.Decide.{decLe}
 use lib.Dec.{eqb}
 use mathlib.Core.Bool.{Bool, true, false}
-use Rattle.calculus.specs.Types.{Atom, Sign}
+use Rattle.calculus.specs.Types.{Sign}
 
 -- the atom of a byte, if it is a letter `a` to `z`
 abbrev pub atomIf : (b : ℕ) → Dec (97 ≤ b) → Dec (b ≤ 122) → Option Sign

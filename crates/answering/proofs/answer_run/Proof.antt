@@ -3,8 +3,8 @@ use Prim.Native.Nat.{ℕ}
 use mathlib.Core.Path.{_≡_, refl, ap, _∙_}
 use Rattle.finish_line.specs.Answer.{numberOf}
 use Rattle.finish_line.specs.declared.Asked.the-variants.{OtherShape}
-use Rattle.answering.specs.Shown.{refusedLine}
-use Rattle.answering.proofs.Printing.{prints}
+use Rattle.answer_lines.specs.Shown.{refusedLine}
+use Rattle.answer_lines.proofs.Printing.{prints}
 use Rattle.answering.proofs.Requests.{asked-answers}
 use borrow.Author.Needs.{needs}
 use Rattle.answering.proofs.answer_run.Statement.{statement}

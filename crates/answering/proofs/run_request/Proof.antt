@@ -2,7 +2,8 @@
 use native.Mathlib.Omega.{arith}
 use mathlib.Core.Path.{sym}
 use lib.Seq.{length-take-le}
-use Rattle.finishing.specs.Answer.{replyOf, ranOf}
+use Rattle.admission.specs.Answer.{replyOf}
+use Rattle.finishing.specs.Answer.{ranOf}
 use Rattle.answering.proofs.Requests.{front-length, request-answers}
 use borrow.Author.Needs.{needs}
 use Rattle.answering.proofs.run_request.Statement.{statement}

@@ -1,7 +1,7 @@
 -- `checking::line_count` meets its contract. The loop's invariant: the lines counted and those from `at` on are all lines. The measure is
 -- what is left of the file. Assumes nothing.
 use Prim.Native.Nat.{_≤_, _+_, _-_}
-use mathlib.Core.Path.{_≡_, refl}
+use mathlib.Core.Path.{_≡_}
 use mathlib.Core.Logic.{⊎-elim}
 use native.Mathlib.Omega.{arith}
 use lib.ListN.{length, drop}

@@ -1,4 +1,5 @@
 -- `controller::controller_compare` meets its contract: comparing's promise, and the number of its answer. Assumes nothing.
+use Rattle.codes.proofs.Coded.{coded-compare}
 use borrow.Author.Needs.{needs}
 use Rattle.controller.proofs.controller_compare.Statement.{statement}
 use Rattle.controller.proofs.controller_compare.Tie as tie
@@ -19,7 +20,7 @@ same-length-3 : tie.Need-same-length-3
 same-length-3 c = search needs
 
 returns : tie.Need-returns
-returns c = cc
+returns c = coded-compare (c .compare-number .ensures) (c .before .before .before .before .before .before .before .compare .ensures .0)
 
 pub controller-compare-spec : {M : Type 1} → statement M
 controller-compare-spec =

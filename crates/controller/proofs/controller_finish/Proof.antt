@@ -1,4 +1,5 @@
 -- `controller::controller_finish` meets its contract: finishing's promise, and the number of its answer. Assumes nothing.
+use Rattle.codes.proofs.Coded.{coded-finish}
 use borrow.Author.Needs.{needs}
 use Rattle.controller.proofs.controller_finish.Statement.{statement}
 use Rattle.controller.proofs.controller_finish.Tie as tie
@@ -16,7 +17,7 @@ same-length-2 : tie.Need-same-length-2
 same-length-2 c = search needs
 
 returns : tie.Need-returns
-returns c = cc
+returns c = coded-finish (c .finish-number .ensures) (c .before .before .before .before .before .before .finish .ensures .0)
 
 pub controller-finish-spec : {M : Type 1} → statement M
 controller-finish-spec =

@@ -1,4 +1,5 @@
 -- `controller::controller_step` meets its contract: stepping's promise, and the number of its answer. Assumes nothing.
+use Rattle.codes.proofs.Coded.{coded-step}
 use borrow.Author.Needs.{needs}
 use Rattle.controller.proofs.controller_step.Statement.{statement}
 use Rattle.controller.proofs.controller_step.Tie as tie
@@ -16,7 +17,7 @@ same-length-2 : tie.Need-same-length-2
 same-length-2 c = search needs
 
 returns : tie.Need-returns
-returns c = cc
+returns c = coded-step (c .step-number .ensures) (c .before .before .before .before .before .step .ensures)
 
 pub controller-step-spec : {M : Type 1} → statement M
 controller-step-spec =

@@ -1,7 +1,6 @@
 -- `fields::field_at` meets its contract. Assumes nothing.
 use mathlib.Core.Path.{ap}
 use Prim.Native.Nat.{ℕ}
-use Rattle.fields.specs.declared.texts.Span.{Span}
 use borrow.Author.Needs.{needs}
 use Rattle.fields.proofs.field_at.Statement.{statement}
 use Rattle.fields.proofs.field_at.Tie as tie

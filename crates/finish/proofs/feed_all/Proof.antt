@@ -3,8 +3,9 @@
 use mathlib.Core.Path.{_≡_, refl, ap}
 use lib.ListN.{length}
 use borrow.Author.Needs.{needs}
-use Rattle.finish_line.specs.Fed.{state, startLine}
-use Rattle.finish_line.specs.declared.Line.{Line}
+use Rattle.line_states.specs.Fed.{startLine}
+use Rattle.line_states.specs.State.{state}
+use Rattle.line_states.specs.declared.Line.{Line}
 use Rattle.finish.specs.Fed.{FedFrom}
 use Rattle.finish.proofs.Feeding.{fed-none, fed-once, fed-on}
 use Rattle.finish.proofs.feed_all.Statement.{statement}

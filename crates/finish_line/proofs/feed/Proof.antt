@@ -4,7 +4,7 @@ use mathlib.Core.Path.{_≡_, refl, sym, _∙_}
 use Prim.Native.Nat.{_≤_, _-_}
 use native.Mathlib.Omega.{arith}
 use lib.ListN.{length, drop}
-use Rattle.finish_line.specs.Fed.{state, fed}
+use Rattle.line_states.specs.State.{state, fed}
 use Rattle.finish_line.proofs.Feeding.{fed-turn, fed-end}
 use borrow.Author.Needs.{needs}
 use Rattle.finish_line.proofs.feed.Statement.{statement}

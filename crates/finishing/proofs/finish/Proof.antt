@@ -31,11 +31,8 @@ run-term-requires c κs =
     after-ready (start .args .area .now) (start .args .len) (start .args .work .now) (start .args .fuel) (at-admit .admit .result)
     (at-admit .admit .ensures) (at-match .match .keys1)
 
-zero-from-requires : tie.Need-zero-from-requires
-zero-from-requires c κs = search needs
-
-zero-from-requires-2 : tie.Need-zero-from-requires-2
-zero-from-requires-2 c κs = search needs
+clear-requires : tie.Need-clear-requires
+clear-requires c κs = search needs
 
 same-length-3 : tie.Need-same-length-3
 same-length-3 c = search needs
@@ -45,18 +42,17 @@ same-length-4 c = search needs
 
 returns-2 : tie.Need-returns-2
 returns-2 c =
-    let at-zero-from2 = c .before .before in
-    let at-zero-from = at-zero-from2 .before .before .before .before in
-    let at-run-term = at-zero-from .before .before .before .before .before .before in
+    let at-clear = c .before .before .before .before in
+    let at-run-term = at-clear .before .before .before .before .before .before .before in
     let at-match = at-run-term .before .before .before .before in
     let at-admit = at-match .before in
     let start = at-admit .before .before .before .before .before in
     after-run (start .args .area .now) (start .args .len) (start .args .work .now) (start .args .fuel) (at-admit .admit .result)
     (at-admit .admit .ensures) (at-match .match .keys1) (outcomeOf (at-run-term .run-term .result .outcome))
     (at-run-term .run-term .result .count) (at-run-term .run-term .result .size) (at-run-term .run-term .last .0)
-    (at-run-term .run-term .last .1 .1 .0) (at-zero-from .zero-from .last .0) (at-zero-from2 .zero-from2 .last .0)
+    (at-run-term .run-term .last .1 .1 .0) (at-clear .clear .last .0) (at-clear .clear .last .1 .1 .0)
     (at-run-term .run-term .ensures) (at-run-term .run-term .kept .0) (at-run-term .run-term .kept .1 .1 .0)
-    (at-zero-from .zero-from .ensures) (at-zero-from2 .zero-from2 .ensures)
+    (at-clear .clear .ensures .0) (at-clear .clear .ensures .1)
 
 pub finish-spec : {M : Type 1} → statement M
 finish-spec =
@@ -68,8 +64,7 @@ finish-spec =
     same-length-2
     returns
     run-term-requires
-    zero-from-requires
-    zero-from-requires-2
+    clear-requires
     same-length-3
     same-length-4
     returns-2)

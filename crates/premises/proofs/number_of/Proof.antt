@@ -1,6 +1,5 @@
 -- `premises::number_of` meets its contract: a number past the limit is told from one within it by the cap. Assumes nothing.
 use Prim.Native.Nat.{_+_}
-use native.Mathlib.Omega.{arith}
 use mathlib.Core.Path.{sym, _∙_}
 use Rattle.calculus.specs.Limits.{lineLimit}
 use Rattle.decimals.proofs.Parsing.{numbered, unnumbered}

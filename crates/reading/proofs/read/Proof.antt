@@ -1,6 +1,6 @@
 -- `reading::read` meets its contract. The loop's invariant: reading goes on at `at` with `owed` terms owed, and comes to the whole
 -- slice's answer. The measure is what is left of the slice. Assumes nothing.
-use Prim.Native.Nat.{ℕ, _≤_, _+_, _-_}
+use Prim.Native.Nat.{_≤_, _+_, _-_}
 use mathlib.Core.Path.{_≡_, sym, _∙_}
 use native.Mathlib.Omega.{arith}
 use borrow.Author.Needs.{needs}

@@ -1,7 +1,7 @@
 -- `redexes::redex` meets its contract. The loop's invariant: p lies within the slice or at its end, q is where the search goes from p, and
 -- where the moves from p end, there end those from the first full stop. The measure is what is left behind p. Assumes nothing.
 use Prim.Native.Nat.{ℕ, _≤_, _-_}
-use mathlib.Core.Path.{sym, subst}
+use mathlib.Core.Path.{subst}
 use native.Mathlib.Omega.{arith}
 use borrow.Author.Needs.{needs}
 use lib.ListN.{length}

@@ -83,20 +83,8 @@ returns-2 c =
     let cleared = at-clear2 .clear2 .ensures in
     λ t h. after-no-room h (a .work .now) (makes t h) (at-growth .growth .ensures) (at-if2 .if2 .taken) (cleared .0) (cleared .1)
 
-slice-reshare-prefix-write : tie.Need-slice-reshare-prefix-write
-slice-reshare-prefix-write c = search needs
-
-slice-aggregate-write : tie.Need-slice-aggregate-write
-slice-aggregate-write c =
-    let start = c .before .before .before .before .before .before .before .before .before .before in
-    let a = start .args in
-    sym (length-take-le (a .len) (a .area .now) (start .pre .0))
-
-write-requires : tie.Need-write-requires
-write-requires c κs = search needs
-
-put-back-requires : tie.Need-put-back-requires
-put-back-requires c κs = search needs
+write-back-requires : tie.Need-write-back-requires
+write-back-requires c κs = search needs
 
 same-length-5 : tie.Need-same-length-5
 same-length-5 c = search needs
@@ -106,9 +94,8 @@ same-length-6 c = search needs
 
 returns-3 : tie.Need-returns-3
 returns-3 c =
-    let at-put-back = c .before .before .before .before in
-    let at-write = at-put-back .before .before .before .before .before in
-    let at-if2 = at-write .before .before .before in
+    let at-write-back = c .before .before .before .before in
+    let at-if2 = at-write-back .before .before .before in
     let at-growth = at-if2 .before in
     let at-rewrite-at = at-growth .before in
     let at-if1 = at-rewrite-at .before .before in
@@ -119,10 +106,8 @@ returns-3 c =
     let w = at-rewrite-at .rewrite-at in
     let makes : (t : Term) → Holds (a .area .now) (a .len) t → Makes t (w .result) =
     λ t h. held-makes h (w .result) (at-redex .redex .ensures) (at-if1 .if1 .left) (w .ensures) in
-    let written = at-write .write .ensures in
-    let put = at-put-back .put-back .ensures in
+    let written = at-write-back .write-back .ensures in
     λ t h. after-step h (a .work .now) (makes t h) (at-growth .growth .ensures) (at-if2 .if2 .left) (pre .1) (written .0) (written .1)
-    (put .0) (put .1)
 
 pub advance-spec : {M : Type 1} → statement M
 advance-spec =
@@ -144,10 +129,7 @@ advance-spec =
     same-length-3
     same-length-4
     returns-2
-    slice-reshare-prefix-write
-    slice-aggregate-write
-    write-requires
-    put-back-requires
+    write-back-requires
     same-length-5
     same-length-6
     returns-3)

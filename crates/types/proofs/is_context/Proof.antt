@@ -1,6 +1,6 @@
 -- `types::is_context` meets its contract. The loop's invariant: the slice is a context's text exactly where the rest from `at` on is
 -- one. The measure is what is left of the slice. Assumes nothing.
-use Prim.Native.Nat.{ℕ, suc, _≤_, _+_, _-_}
+use Prim.Native.Nat.{ℕ, suc, _+_, _-_}
 use mathlib.Core.Path.{_≡_, sym, _∙_, ap}
 use mathlib.Core.Bool.{true}
 use native.Mathlib.Omega.{arith}

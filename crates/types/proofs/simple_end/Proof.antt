@@ -1,6 +1,6 @@
 -- `types::simple_end` meets its contract. The loop's invariant: what stands behind the simple types owed from `at` on is what stands
 -- behind the one from `from` on. The measure is what is left of the slice. Assumes nothing.
-use Prim.Native.Nat.{ℕ, _≤_, _+_, _-_}
+use Prim.Native.Nat.{_≤_, _+_, _-_}
 use mathlib.Core.Path.{_≡_, refl, sym, _∙_}
 use native.Mathlib.Omega.{arith}
 use borrow.Author.Needs.{needs}

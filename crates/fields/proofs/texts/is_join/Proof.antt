@@ -1,5 +1,5 @@
 -- `texts::is_join` meets its contract: it hands the bytes of the three texts to `joins`. Assumes nothing.
-
+use mathlib.Core.Path.{sym}
 use borrow.Author.Needs.{needs}
 use Rattle.fields.proofs.texts.is_join.Statement.{statement}
 use Rattle.fields.proofs.texts.is_join.Tie as tie
@@ -17,7 +17,10 @@ joins-requires : tie.Need-joins-requires
 joins-requires c κs = search needs
 
 returns : tie.Need-returns
-returns c = cc
+returns c =
+    rw
+    (sym (c .before .before .before .bytes-of .ensures), sym (c .before .before .bytes-of2 .ensures), sym (c .before .bytes-of3 .ensures))
+    (c .joins .ensures)
 
 pub is-join-spec : {M : Type 1} → statement M
 is-join-spec =

@@ -1,0 +1,3 @@
+pub mod Calls
+pub mod Admitting
+pub mod Answers

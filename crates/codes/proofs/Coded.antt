@@ -1,0 +1,25 @@
+-- The number of an answer, with what the operation leaves in the areas, is the coded reply. Assumes nothing.
+use Prim.Native.Nat.{ℕ}
+use mathlib.Core.Path.{_≡_, _∙_, ap}
+use mathlib.Core.List.{List}
+use Rattle.reading.specs.Reply.{Reply}
+use Rattle.stepping.specs.Stepping as stepping
+use Rattle.finishing.specs.Finishing as finishing
+use Rattle.verdicts.specs.Comparing as comparing
+use Rattle.codes.specs.Encoding.{stepNumber, finishNumber, compareNumber, codedStep, codedFinish, codedCompare}
+
+pub coded-step :
+    {n : ℕ} {reply : Reply stepping.Stepped} {area work : List ℕ} {end : stepping.After} →
+    n ≡ stepNumber reply → stepping.After.after reply area work ≡ end → (n, area, work) ≡ codedStep end
+coded-step {n} {reply} {area} {work} number ended = ap (λ (m : ℕ). (m, area, work)) number ∙ ap codedStep ended
+
+pub coded-finish :
+    {n : ℕ} {reply : Reply Unit} {run : finishing.Ran} {area work : List ℕ} {end : finishing.After} →
+    n ≡ finishNumber reply run → finishing.After.after reply run area work ≡ end → (n, area, work) ≡ codedFinish end
+coded-finish {n} {reply} {run} {area} {work} number ended = ap (λ (m : ℕ). (m, area, work)) number ∙ ap codedFinish ended
+
+pub coded-compare :
+    {n : ℕ} {reply : Reply comparing.Compared} {first second work : List ℕ} {end : comparing.After} →
+    n ≡ compareNumber reply → comparing.After.after reply first second work ≡ end → (n, first, second, work) ≡ codedCompare end
+coded-compare {n} {reply} {first} {second} {work} number ended =
+    ap (λ (m : ℕ). (m, first, second, work)) number ∙ ap codedCompare ended

@@ -1,0 +1,5 @@
+pub mod Edges
+pub mod Caps
+pub mod Buffer
+pub mod Shape
+pub mod Reached

@@ -1,0 +1,5 @@
+pub mod Request
+pub mod Edges
+pub mod Fed
+pub mod Kept
+pub mod State

@@ -1,0 +1,42 @@
+-- A case of an answer's enum that is no answer is a refusal. Assumes nothing.
+use mathlib.Core.Path.{_≡_, refl, sym, subst}
+use mathlib.Core.List.{[], _∷_}
+use types.Run.{OneOf, miss}
+use denote.Enum.Declared.{tagOf}
+use Rattle.codes.proofs.Refusals.{Refusal, refused-passed}
+use Rattle.reading.specs.Answer as reading
+use Rattle.reading.specs.declared.Reading.{Reading}
+use Rattle.reading.specs.declared.Reading.the-variants.{Whole, NoLetter, NotWhole, Beyond}
+use Rattle.reading.proofs.Reading.{the-type as Reading-type}
+use Rattle.stepping.specs.Answer as stepping
+use Rattle.stepping.specs.declared.Stepping.{Stepping}
+use Rattle.stepping.specs.declared.Stepping.the-variants as step
+use Rattle.stepping.proofs.Stepping.{the-type as Stepping-type}
+use Rattle.admission.specs.Answer as admission
+use Rattle.admission.specs.declared.Admission.{Admission}
+use Rattle.admission.proofs.Admission.{the-type as Admission-type}
+use Rattle.admission.proofs.Answers.{reply-refused}
+use Rattle.verdicts.specs.Answer as comparing
+use Rattle.verdicts.specs.declared.Comparing.{Comparing}
+use Rattle.verdicts.specs.declared.Comparing.the-variants as compare
+
+pub reading-refusal : (a : Reading) → OneOf (1 ∷ 2 ∷ 3 ∷ []) (tagOf Reading-type a) → Refusal (reading.answerOf a)
+reading-refusal (Whole size) k = absurd (miss (1 ∷ 2 ∷ 3 ∷ []) 0 tt k)
+reading-refusal (NoLetter place) k = refl
+reading-refusal (NotWhole place) k = refl
+reading-refusal (Beyond place) k = refl
+
+pub stepping-refusal : (a : Stepping) → OneOf (0 ∷ 1 ∷ 2 ∷ 3 ∷ []) (tagOf Stepping-type a) → Refusal (stepping.answerOf a)
+stepping-refusal step.AreaTooLong k = refl
+stepping-refusal step.WorkTooShort k = refl
+stepping-refusal step.LengthTooLong k = refl
+stepping-refusal (step.Unread reading) k = refl
+stepping-refusal (step.Normal size) k = absurd (miss (0 ∷ 1 ∷ 2 ∷ 3 ∷ []) 4 tt k)
+stepping-refusal (step.NoRoom size) k = absurd (miss (0 ∷ 1 ∷ 2 ∷ 3 ∷ []) 5 tt k)
+stepping-refusal (step.Done rule size) k = absurd (miss (0 ∷ 1 ∷ 2 ∷ 3 ∷ []) 6 tt k)
+
+pub finishing-refusal : (a : Admission) → OneOf (0 ∷ 1 ∷ 2 ∷ 3 ∷ 4 ∷ []) (tagOf Admission-type a) → Refusal (admission.replyOf a)
+finishing-refusal a k = refused-passed (reply-refused a k .2)
+
+pub comparing-refusal : {a : Comparing} {d : Admission} → a ≡ compare.Refused d → Refusal (comparing.answerOf a)
+comparing-refusal e = subst (λ (a : Comparing). Refusal (comparing.answerOf a)) (sym e) refl

@@ -1,0 +1,75 @@
+-- `term_numbers::step_number` meets its contract: an answer has its number by definition, every other case is a refusal. Assumes nothing.
+use mathlib.Core.Path.{_∙_}
+use Rattle.codes.specs.Encoding.{stepNumber, stepParts}
+use Rattle.codes.proofs.Refusals.{coded-refusal}
+use Rattle.term_numbers.proofs.Refusals.{stepping-refusal}
+use borrow.Author.Needs.{needs}
+use Rattle.term_numbers.proofs.step_number.Statement.{statement}
+use Rattle.term_numbers.proofs.step_number.Tie as tie
+
+enum-known-answer : tie.Need-enum-known-answer
+enum-known-answer c = search needs
+
+narrow-requires : tie.Need-narrow-requires
+narrow-requires c κs = search needs
+
+enum-known-answer-2 : tie.Need-enum-known-answer-2
+enum-known-answer-2 c = search needs
+
+narrow-requires-2 : tie.Need-narrow-requires-2
+narrow-requires-2 c κs = search needs
+
+enum-known-answer-3 : tie.Need-enum-known-answer-3
+enum-known-answer-3 c = search needs
+
+cast-narrow : tie.Need-cast-narrow
+cast-narrow c = search needs
+
+narrow-requires-3 : tie.Need-narrow-requires-3
+narrow-requires-3 c κs = search needs
+
+number-requires : tie.Need-number-requires
+number-requires c κs = search needs
+
+place-requires : tie.Need-place-requires
+place-requires c κs = search needs
+
+wide-requires : tie.Need-wide-requires
+wide-requires c κs = search needs
+
+returns : tie.Need-returns
+unfolding stepNumber
+returns c = rw (c .before .before .answer .given .1) (c .narrow .ensures)
+
+returns-2 : tie.Need-returns-2
+unfolding stepNumber
+returns-2 c = rw (c .before .before .answer2 .given .1) (c .narrow2 .ensures)
+
+returns-3 : tie.Need-returns-3
+unfolding stepNumber
+returns-3 c = rw (c .before .before .answer3 .given .1) (c .narrow3 .ensures)
+
+returns-4 : tie.Need-returns-4
+unfolding stepNumber
+returns-4 c =
+    c .wide .ensures
+    ∙ coded-refusal stepParts _ (stepping-refusal (c .before .before .before .before .args .answer) (c .before .before .before .match .keys4)) (c .before .before .number .ensures) (c .before .place .ensures)
+
+pub step-number-spec : {M : Type 1} → statement M
+step-number-spec =
+    tie.close
+    (tie.spec
+    enum-known-answer
+    narrow-requires
+    enum-known-answer-2
+    narrow-requires-2
+    enum-known-answer-3
+    cast-narrow
+    narrow-requires-3
+    number-requires
+    place-requires
+    wide-requires
+    returns
+    returns-2
+    returns-3
+    returns-4)

@@ -1,0 +1,70 @@
+// The answers of the operations on terms, each as one number for callers in C.
+use admission::Admission;
+use finishing::Outcome;
+use finishing::Run;
+use reading::Reading;
+use stepping::Stepping;
+use verdicts::Comparing;
+ghost use mathlib.Core.Path.{_≡_};
+ghost use Rattle.reading.specs.Answer.{answerOf as readingAnswer};
+ghost use Rattle.stepping.specs.Answer.{answerOf as steppingAnswer};
+ghost use Rattle.admission.specs.Answer.{replyOf};
+ghost use Rattle.finishing.specs.Answer.{outcomeOf, ranOf};
+ghost use Rattle.verdicts.specs.Answer.{answerOf as comparingAnswer};
+ghost use Rattle.codes.specs.Encoding.{outcomeCode, readNumber, stepNumber, finishNumber, compareNumber};
+
+// The number of reading's answer.
+pub fn read_number(answer: Reading) -> u64
+    ensures { λ r. ⌜ r ≡ readNumber (readingAnswer answer) ⌝ }
+{
+    match answer {
+        Reading::Whole(size) => codes::wide(103, size),
+        _ => codes::wide(reading::number(answer), reading::place(answer)),
+    }
+}
+
+// The number of stepping's answer.
+pub fn step_number(answer: Stepping) -> u64
+    ensures { λ r. ⌜ r ≡ stepNumber (steppingAnswer answer) ⌝ }
+{
+    match answer {
+        Stepping::Normal(size) => codes::narrow(100, 0, size),
+        Stepping::NoRoom(size) => codes::narrow(101, 0, size),
+        Stepping::Done(rule, size) => codes::narrow(102, rule as usize, size),
+        _ => codes::wide(stepping::number(answer), stepping::place(answer)),
+    }
+}
+
+// The code of a run's outcome.
+fn outcome_code(outcome: Outcome) -> u64
+    ensures { λ r. ⌜ r ≡ outcomeCode (outcomeOf outcome) ⌝ }
+{
+    match outcome {
+        Outcome::Finished => 110,
+        Outcome::Spent => 111,
+        Outcome::NoRoom => 112,
+    }
+}
+
+// The number of finishing's answer.
+pub fn finish_number(admission: Admission, run: Run) -> u64
+    ensures { λ r. ⌜ r ≡ finishNumber (replyOf admission) (ranOf run) ⌝ }
+{
+    let outcome = run.outcome;
+    match admission {
+        Admission::Admitted => codes::narrow(outcome_code(outcome), run.count as usize, run.size),
+        _ => codes::wide(admission::number(admission), admission::place(admission)),
+    }
+}
+
+// The number of comparing's answer.
+pub fn compare_number(answer: Comparing) -> u64
+    ensures { λ r. ⌜ r ≡ compareNumber (comparingAnswer answer) ⌝ }
+{
+    match answer {
+        Comparing::Same => codes::narrow(113, 0, 0),
+        Comparing::Different => codes::narrow(114, 0, 0),
+        Comparing::Undecided => codes::narrow(115, 0, 0),
+        _ => codes::wide(verdicts::number(answer), verdicts::place(answer)),
+    }
+}
