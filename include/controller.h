@@ -73,7 +73,7 @@ enum {
     CONTROLLER_WORK_TOO_SHORT = 2,   /* the work area is shorter than a term area; place 0 */
     CONTROLLER_LENGTH_TOO_LONG = 3,  /* a term is said to be longer than its area; place 0 */
     CONTROLLER_FUEL_TOO_HIGH = 4,    /* the fuel is more than CONTROLLER_MOST_FUEL; place 0 */
-    CONTROLLER_NO_LETTER = 5,        /* the byte at that place is none of the letters J R H A I B . */
+    CONTROLLER_NO_LETTER = 5,        /* the byte at that place is none of the letters J R H A I B . and no bell */
     CONTROLLER_NOT_WHOLE = 6,        /* the text ends at that place, and its term has not ended */
     CONTROLLER_BEYOND = 7            /* the term has ended before that place, and a byte stands there */
 };

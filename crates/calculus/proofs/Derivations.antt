@@ -27,6 +27,7 @@ follows-has Follows.by-A (Among.also m (Among.also k Among.all)) tree = Has.has-
 follows-has Follows.by-I Among.all tree = Has.has-I
 follows-has Follows.by-B (Among.also m (Among.also k Among.all)) tree = Has.has-B (tree _ m) (tree _ k)
 follows-has Follows.by-s (Among.also m (Among.also k Among.all)) tree = Has.has-s (tree _ m) (tree _ k)
+follows-has Follows.by-K Among.all tree = Has.has-K
 
 -- Each judgement of a derivation has a tree.
 pub members-have : {js : List Judgement} → Derivation js → (j : Judgement) → List·Memᴰ j js → Tree j
@@ -73,6 +74,7 @@ has-derivation (Has.has-A h k) = follows-two Follows.by-A (has-derivation h) (ha
 has-derivation Has.has-I = follows-none Follows.by-I
 has-derivation (Has.has-B h k) = follows-two Follows.by-B (has-derivation h) (has-derivation k)
 has-derivation (Has.has-s h k) = follows-two Follows.by-s (has-derivation h) (has-derivation k)
+has-derivation Has.has-K = follows-none Follows.by-K
 
 -- A judgement is derivable exactly when it has a tree.
 pub derivable-has : (G : Context) (t : Term) (W : Ty) → Derivable (Judgement.judge G t W) ↔ Has G t W
