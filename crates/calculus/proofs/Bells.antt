@@ -73,7 +73,9 @@ stands-row : (b : ℕ) (bs : List ℕ) → stands b bs ≡ true → (r : Row bs)
 stands-row b [] e = absurd (false≢true e)
 stands-row b (c ∷ bs) e = go (eqb b c) refl (stands-row b bs) e
   where
-    go : (t : Bool) → eqb b c ≡ t → (stands b bs ≡ true → (r : Row bs) × (b ≡ byteIn r)) → (t || stands b bs) ≡ true → (r : Row (c ∷ bs)) × (b ≡ byteIn r)
+    go :
+        (t : Bool) → eqb b c ≡ t → (stands b bs ≡ true → (r : Row bs) × (b ≡ byteIn r)) → (t || stands b bs) ≡ true →
+        (r : Row (c ∷ bs)) × (b ≡ byteIn r)
     go true q later e = (Row.first, eqb-true b c q)
     go false q later e = let (r, same) = later e in (Row.later r, same)
 

@@ -8,13 +8,13 @@ use mathlib.Core.Option.{Option, none, some}
 use mathlib.Core.List.{List, [], _∷_, _++_, map, append-nil, append-assoc, append-cancel-left, List·Memᴰ, List·Memᴰ·head, List·Memᴰ·tail, List·Memᴰ·not-nil, List·Memᴰ·cases-cons, List·Memᴰ·append-cases, Memᴰ·append-left, Memᴰ·append-right, Memᴰ·map}
 use lib.Dec.{eqb}
 use lib.ListN.{length, length-append}
-use borrow.Author.Tests.{eqb-true, eq-eqb, ne-eqb}
+use borrow.Author.Tests.{eqb-true, eq-eqb, ne-eqb, not-true}
 use native.Mathlib.Omega.{arith}
 use Rattle.calculus.specs.Bell.{Bell, stands}
 use Rattle.calculus.specs.Letter.{Letter, byte, alphabet, chosen, find, letterOf}
 use Rattle.calculus.specs.Term.{Term, text, size, Normal}
 use Rattle.calculus.specs.Parse.{Item, one, two, push, items, single, termOf}
-use Rattle.calculus.proofs.Bells.{row-listed, listed-stands}
+use Rattle.calculus.proofs.Bells.{and-both, row-listed, listed-stands}
 
 -- no byte of the list stands in it again
 abbrev distinct : List ℕ → Bool
@@ -27,20 +27,14 @@ letters-distinct = refl
 
 -- each letter is in the alphabet
 listed : (l : Letter) → List·Memᴰ l alphabet
-listed Letter.J = List·Memᴰ·head refl
-listed Letter.R = List·Memᴰ·tail (List·Memᴰ·head refl)
-listed Letter.H = List·Memᴰ·tail (List·Memᴰ·tail (List·Memᴰ·head refl))
-listed Letter.A = List·Memᴰ·tail (List·Memᴰ·tail (List·Memᴰ·tail (List·Memᴰ·head refl)))
-listed Letter.I = List·Memᴰ·tail (List·Memᴰ·tail (List·Memᴰ·tail (List·Memᴰ·tail (List·Memᴰ·head refl))))
-listed Letter.B = List·Memᴰ·tail (List·Memᴰ·tail (List·Memᴰ·tail (List·Memᴰ·tail (List·Memᴰ·tail (List·Memᴰ·head refl)))))
-listed Letter.stop = List·Memᴰ·tail (List·Memᴰ·tail (List·Memᴰ·tail (List·Memᴰ·tail (List·Memᴰ·tail (List·Memᴰ·tail (List·Memᴰ·head refl))))))
-listed (Letter.bell k) = List·Memᴰ·tail (List·Memᴰ·tail (List·Memᴰ·tail (List·Memᴰ·tail (List·Memᴰ·tail (List·Memᴰ·tail (List·Memᴰ·tail (Memᴰ·map Letter.bell (row-listed k))))))))
-
--- what `distinct` asks of a byte and those behind it
-apart : (s d : Bool) → (not s && d) ≡ true → (s ≡ false) × (d ≡ true)
-apart false true e = (refl, refl)
-apart false false e = absurd (false≢true e)
-apart true d e = absurd (false≢true e)
+listed Letter.J = search (List·Memᴰ·head, List·Memᴰ·tail) depth 9
+listed Letter.R = search (List·Memᴰ·head, List·Memᴰ·tail) depth 9
+listed Letter.H = search (List·Memᴰ·head, List·Memᴰ·tail) depth 9
+listed Letter.A = search (List·Memᴰ·head, List·Memᴰ·tail) depth 9
+listed Letter.I = search (List·Memᴰ·head, List·Memᴰ·tail) depth 9
+listed Letter.B = search (List·Memᴰ·head, List·Memᴰ·tail) depth 9
+listed Letter.stop = search (List·Memᴰ·head, List·Memᴰ·tail) depth 9
+listed (Letter.bell k) = let row = Memᴰ·map Letter.bell (row-listed k) in search (List·Memᴰ·tail, row) depth 9
 
 -- a letter of the list is found by its byte, where no two have one byte
 found : (l : Letter) (ls : List Letter) → List·Memᴰ l ls → distinct (map byte ls) ≡ true → find (byte l) ls ≡ some l
@@ -49,11 +43,11 @@ found l (x ∷ ls) (List·Memᴰ·head same) e =
     ap (λ (t : Bool). chosen t x (find (byte l) ls)) (eq-eqb (byte l) (byte x) (ap byte same)) ∙ ap some (sym same)
 found l (x ∷ ls) (List·Memᴰ·tail m) e = ap (λ (t : Bool). chosen t x (find (byte l) ls)) (ne-eqb (byte l) (byte x) other) ∙ found l ls m (parted .1)
   where
-    parted : (stands (byte x) (map byte ls) ≡ false) × (distinct (map byte ls) ≡ true)
-    parted = apart (stands (byte x) (map byte ls)) (distinct (map byte ls)) e
+    parted : (not (stands (byte x) (map byte ls)) ≡ true) × (distinct (map byte ls) ≡ true)
+    parted = and-both (not (stands (byte x) (map byte ls))) (distinct (map byte ls)) e
 
     other : ¬ (byte l ≡ byte x)
-    other same = false≢true (sym (parted .0) ∙ ap (λ (b : ℕ). stands b (map byte ls)) (sym same) ∙ listed-stands (Memᴰ·map byte m))
+    other same = false≢true (sym (not-true (stands (byte x) (map byte ls)) (parted .0)) ∙ ap (λ (b : ℕ). stands b (map byte ls)) (sym same) ∙ listed-stands (Memᴰ·map byte m))
 
 -- a letter is the letter of its byte
 pub letterOf-byte : (l : Letter) → letterOf (byte l) ≡ some l
