@@ -50,15 +50,15 @@ derivation-append Derivation.start e = e
 derivation-append (Derivation.line f a d) e = Derivation.line f (among-append _ a) (derivation-append d e)
 
 -- What follows from no premise is derivable.
-pub follows-none : {name : Name} {j : Judgement} → Follows name [] j → Derivable j
+abbrev pub follows-none : {name : Name} {j : Judgement} → Follows name [] j → Derivable j
 follows-none f = record { earlier = _; derivation = Derivation.line f Among.all Derivation.start }
 
 -- What follows from a derivable judgement is derivable.
-pub follows-one : {name : Name} {i j : Judgement} → Follows name (i ∷ []) j → Derivable i → Derivable j
+abbrev pub follows-one : {name : Name} {i j : Judgement} → Follows name (i ∷ []) j → Derivable i → Derivable j
 follows-one f d = record { earlier = _; derivation = Derivation.line f (Among.also (List·Memᴰ·head refl) Among.all) (d .derivation) }
 
 -- What follows from two derivable judgements is derivable.
-pub follows-two : {name : Name} {i k j : Judgement} → Follows name (i ∷ k ∷ []) j → Derivable i → Derivable k → Derivable j
+abbrev pub follows-two : {name : Name} {i k j : Judgement} → Follows name (i ∷ k ∷ []) j → Derivable i → Derivable k → Derivable j
 follows-two {i} f d e =
     let both = derivation-append (d .derivation) (e .derivation) in
     let second = Memᴰ·append-right (i ∷ d .earlier) (List·Memᴰ·head refl) in

@@ -1,5 +1,5 @@
 -- The bells (REQUIREMENTS, Bells): a table of their letters in the order of their numbers. A bell is a row of the table, so that one bell more is one
--- letter more there; how many there are is said nowhere else.
+-- letter more there; no other definition says how many there are.
 use Prim.Native.Nat.{ℕ, suc}
 use mathlib.Core.Bool.{Bool, false, _||_}
 use mathlib.Core.List.{List, [], _∷_, map}
@@ -33,6 +33,7 @@ bellLetters = ascii "1234567890ET"
 abbrev pub Bell : Type 0
 Bell = Row bellLetters
 
+-- whether a byte stands in a table
 abbrev pub stands : ℕ → List ℕ → Bool
 stands b [] = false
 stands b (c ∷ cs) = eqb b c || stands b cs
