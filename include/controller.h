@@ -73,7 +73,7 @@ enum {
     CONTROLLER_WORK_TOO_SHORT = 2,   /* the work area is shorter than a term area; place 0 */
     CONTROLLER_LENGTH_TOO_LONG = 3,  /* a term is said to be longer than its area; place 0 */
     CONTROLLER_FUEL_TOO_HIGH = 4,    /* the fuel is more than CONTROLLER_MOST_FUEL; place 0 */
-    CONTROLLER_NO_LETTER = 5,        /* the byte at that place is none of the letters J R H A I B . */
+    CONTROLLER_NO_LETTER = 5,        /* the byte at that place is none of J R H A I B . and no bell: 1 to 9, 0, E, T */
     CONTROLLER_NOT_WHOLE = 6,        /* the text ends at that place, and its term has not ended */
     CONTROLLER_BEYOND = 7            /* the term has ended before that place, and a byte stands there */
 };
@@ -86,7 +86,7 @@ enum {
     CONTROLLER_TOO_MANY_LINES = 13,  /* the file has more than CONTROLLER_MOST_LINES; line 0 */
     CONTROLLER_NOT_SIX_FIELDS = 14,  /* that line has more or fewer than six fields */
     CONTROLLER_MALFORMED = 15,       /* that line's context, term or type is none */
-    CONTROLLER_UNKNOWN_RULE = 16,    /* that line's rule is none of J R H f A I B s */
+    CONTROLLER_UNKNOWN_RULE = 16,    /* that line's rule is none of J R H f A I B s K */
     CONTROLLER_BAD_PREMISE = 17,     /* a premise of that line is not what its rule has there */
     CONTROLLER_NO_INSTANCE = 18      /* that line does not follow by its rule from its premises */
 };
@@ -114,7 +114,7 @@ uint64_t controller_read(const uint8_t *bytes, size_t size);
 enum {
     CONTROLLER_NORMAL = 100,         /* the term has no next step; it stays */
     CONTROLLER_STEP_NO_ROOM = 101,   /* the next term is larger than the area; the term stays */
-    CONTROLLER_STEPPED = 102         /* a step was made; CONTROLLER_VALUE is its rule's number, 1 to 11 */
+    CONTROLLER_STEPPED = 102         /* a step was made; CONTROLLER_VALUE is its rule's number, 1 to 13 */
 };
 uint64_t controller_step(uint8_t *area, size_t area_size, size_t term_size, uint8_t *work, size_t work_size);
 

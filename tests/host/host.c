@@ -254,6 +254,12 @@ static void readings(void)
     read_text("JJ");
     read_bytes("nothing", "", 0);
     read_bytes("HJJ and a NUL", "HJJ\0", 4);
+    read_text("1");
+    read_text("T");
+    read_text("BEB0I");
+    read_text("J1");
+    read_text("10");
+    read_text("HK1");
 }
 
 static void long_readings(void)
@@ -282,6 +288,11 @@ static void steps(void)
     step(".BIIBJJ", 11, 7, 11);
     step(".BIIBJJ", 10, 7, 12);
     step("AI.IJ", 5, 5, 5);
+    step("T", 3, 1, 3);
+    step(".1J", 3, 3, 3);
+    step(".1.II", 6, 5, 6);
+    step(".BJI1", 5, 5, 5);
+    step(".BJI.0J", 7, 7, 8);
 }
 
 static void step_refusals(void)
@@ -311,6 +322,9 @@ static void runs(void)
     finish(".BIIABJIRJ", 14, 10, 14, 100);
     finish(".B.AIHJJAIHJJI.II", 17, 17, 17, 100);
     finish(".AIHJJAIHJJ", 30, 11, 30, 3);
+    finish(".BJI.1T", 11, 7, 11, 100);
+    finish(".BJI.1T", 10, 7, 10, 100);
+    finish(".B1B2B3IBRRJBRJBJI", 33, 18, 33, 100);
 }
 
 static void long_runs(void)
@@ -318,6 +332,7 @@ static void long_runs(void)
     finish_nested("R", CONTROLLER_LARGEST_AREA - 1, "J", 1);
     finish_nested(".I", CONTROLLER_LARGEST_AREA / 2 - 1, "J", CONTROLLER_MOST_FUEL);
     finish_nested(".J", CONTROLLER_LARGEST_AREA / 2 - 1, "J", CONTROLLER_MOST_FUEL);
+    finish_nested(".1", CONTROLLER_LARGEST_AREA / 2 - 1, "T", CONTROLLER_MOST_FUEL);
 }
 
 static void run_refusals(void)
@@ -339,6 +354,8 @@ static void comparisons(void)
     compare(".BII.JRJ", 12, ".II", 4, 12, 6);
     compare(".BII.JRJ", 12, ".II", 4, 12, 1);
     compare("J", 1, ".BII.JRJ", 11, 11, 6);
+    compare("1", 1, ".BJI1", 5, 6, 1);
+    compare("E", 2, "T", 1, 2, 0);
     compare("J", 2, "J", 3, 3, CONTROLLER_MOST_FUEL + 1);
     compare("J", 5, "J", 3, 4, 5);
     compare("J", 3, "J", 5, 4, 5);
@@ -350,6 +367,7 @@ static void comparisons(void)
 
 #define LINE_J "*a1\tJ\ta\tJ\t-\t-\n"
 #define LINE_I "1\tI\t1\tI\t-\t-\n"
+#define LINE_K "1\t1\tb\tK\t-\t-\n"
 
 static void checks(void)
 {
@@ -371,12 +389,18 @@ static void checks(void)
     check("R gives simple types only", LINE_I "*a1\tRI\t1\tR\t1\t-\n");
     check("J in the empty context", "1\tJ\ta\tJ\t-\t-\n");
     check_bytes("NUL as the term", "1\t\0\t1\tI\t-\t-\n", 12);
+    check("a bell", LINE_K);
+    check("a bell of another type", "1\t1\ta\tK\t-\t-\n");
+    check("a bell with a premise", LINE_K "1\t1\tb\tK\t1\t-\n");
+    check("K as the term", "1\tK\tb\tK\t-\t-\n");
+    check("a bell in a pair", LINE_K LINE_I "1\tB1I\t*b1\tB\t1\t2\n");
 }
 
 static void matches(void)
 {
     match("a file and itself", LINE_J LINE_I, LINE_J LINE_I);
     match("claims on different terms", LINE_I "1\t.II\t1\ts\t1\t1\n", LINE_I);
+    match("claims on two bells", LINE_K, "1\tT\tb\tK\t-\t-\n");
     match("different contexts", LINE_I, "*a1\tI\t1\tI\t-\t-\n");
     match("different types", LINE_J, "*a1\tI\t1\tI\t-\t-\n");
     match("first bad on line 2, second on line 1", LINE_I "1\tJ\ta\tJ\t-\t-\n", "x\n");

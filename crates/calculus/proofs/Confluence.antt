@@ -4,6 +4,7 @@ use Prim.Native.Nat.{ℕ}
 use mathlib.Core.Path.{_≡_, refl, sym, _∙_, subst}
 use mathlib.Core.List.{_∷_}
 use mathlib.Core.Logic.{_↔_}
+use Rattle.calculus.specs.Bell.{Bell}
 use Rattle.calculus.specs.Term.{Term, Normal}
 use Rattle.calculus.specs.Rule.{Rule}
 use Rattle.calculus.specs.Change.{Side, Place, Change}
@@ -17,6 +18,7 @@ pub data Par : Term → Term → Type 0 where
   par-A : {s s′ t t′ : Term} → Par s s′ → Par t t′ → Par (Term.A s t) (Term.A s′ t′)
   par-I : Par Term.I Term.I
   par-B : {u u′ s s′ : Term} → Par u u′ → Par s s′ → Par (Term.B u s) (Term.B u′ s′)
+  par-bell : {k : Bell} → Par (Term.bell k) (Term.bell k)
   par-app : {t t′ u u′ : Term} → Par t t′ → Par u u′ → Par (Term.app t u) (Term.app t′ u′)
   fire : {n : ℕ} {t t′ u u′ v : Term} → Par t t′ → Par u u′ → Rule n (Term.app t′ u′) v → Par (Term.app t u) v
 
@@ -29,6 +31,7 @@ par-refl (Term.A s t) = par-A (par-refl s) (par-refl t)
 par-refl Term.I = par-I
 par-refl (Term.B u s) = par-B (par-refl u) (par-refl s)
 par-refl (Term.app t u) = par-app (par-refl t) (par-refl u)
+par-refl (Term.bell k) = par-bell
 
 -- A rule alone is such a becoming: its left side is an application.
 pub rule-par : {n : ℕ} {t u : Term} → Rule n t u → Par t u
@@ -83,6 +86,7 @@ par-reduce (par-H p q) = reduce-both Term.H (λ n p t t′ u. Change.in-H₁) (�
 par-reduce (par-A p q) = reduce-both Term.A (λ n p t t′ u. Change.in-A₁) (λ n p t u u′. Change.in-A₂) (par-reduce p) (par-reduce q)
 par-reduce par-I = Reduce.unchanged
 par-reduce (par-B p q) = reduce-both Term.B (λ n p t t′ u. Change.in-B₁) (λ n p t u u′. Change.in-B₂) (par-reduce p) (par-reduce q)
+par-reduce par-bell = Reduce.unchanged
 par-reduce (par-app p q) = reduce-app (par-reduce p) (par-reduce q)
 par-reduce (fire p q r) = reduce-trans (reduce-app (par-reduce p) (par-reduce q)) (Reduce.forwards (Change.here r) Reduce.unchanged)
 
@@ -93,12 +97,14 @@ contract (Term.R t) u = Term.H (Term.R t) u
 contract (Term.H r t) u = Term.H (Term.H r t) u
 contract (Term.A s t) u = Term.app (Term.B u s) t
 contract Term.I t = t
+contract (Term.bell k) t = Term.H (Term.bell k) t
 contract (Term.B u s) Term.J = u
 contract (Term.B u s) (Term.R t) = Term.app s t
 contract (Term.B u s) (Term.H r t) = Term.app (Term.app (Term.B u s) r) (Term.app (Term.B u s) t)
 contract (Term.B u s) (Term.A r t) = Term.A (Term.app (Term.B u s) r) t
 contract (Term.B u s) Term.I = Term.I
 contract (Term.B u s) (Term.B r t) = Term.B (Term.app (Term.B u s) r) (Term.app (Term.B u s) t)
+contract (Term.B u s) (Term.bell k) = Term.bell k
 contract (Term.B u s) (Term.app f a) = Term.app (Term.B u s) (Term.app f a)
 contract (Term.app f a) u = Term.app (Term.app f a) u
 
@@ -111,6 +117,7 @@ develop (Term.A s t) = Term.A (develop s) (develop t)
 develop Term.I = Term.I
 develop (Term.B u s) = Term.B (develop u) (develop s)
 develop (Term.app t u) = contract (develop t) (develop u)
+develop (Term.bell k) = Term.bell k
 
 -- An application whose parts become f and a becomes what `.` f a contracts to.
 pub app-contract : {t u : Term} (f a : Term) → Par t f → Par u a → Par (Term.app t u) (contract f a)
@@ -119,12 +126,14 @@ app-contract (Term.R t) a p q = fire p q Rule.rule-2
 app-contract (Term.H r t) a p q = fire p q Rule.rule-3
 app-contract (Term.A s t) a p q = fire p q Rule.rule-4
 app-contract Term.I a p q = fire p q Rule.rule-5
+app-contract (Term.bell k) a p q = fire p q Rule.rule-12
 app-contract (Term.B u s) Term.J p q = fire p q Rule.rule-6
 app-contract (Term.B u s) (Term.R t) p q = fire p q Rule.rule-7
 app-contract (Term.B u s) (Term.H r t) p q = fire p q Rule.rule-8
 app-contract (Term.B u s) (Term.A r t) p q = fire p q Rule.rule-9
 app-contract (Term.B u s) Term.I p q = fire p q Rule.rule-10
 app-contract (Term.B u s) (Term.B r t) p q = fire p q Rule.rule-11
+app-contract (Term.B u s) (Term.bell k) p q = fire p q Rule.rule-13
 app-contract (Term.B u s) (Term.app f a) p q = par-app p q
 app-contract (Term.app f a) u p q = par-app p q
 
@@ -141,6 +150,8 @@ rule-contract Rule.rule-8 (par-B p p′) (par-H q q′) = par-app (par-app (par-
 rule-contract Rule.rule-9 (par-B p p′) (par-A q q′) = par-A (par-app (par-B p p′) q) q′
 rule-contract Rule.rule-10 (par-B p p′) par-I = par-I
 rule-contract Rule.rule-11 (par-B p p′) (par-B q q′) = par-B (par-app (par-B p p′) q) (par-app (par-B p p′) q′)
+rule-contract Rule.rule-12 par-bell q = par-H par-bell q
+rule-contract Rule.rule-13 (par-B p p′) par-bell = par-bell
 
 -- Whatever a term becomes, becomes its development.
 pub triangle : {t u : Term} → Par t u → Par u (develop t)
@@ -150,6 +161,7 @@ triangle (par-H p q) = par-H (triangle p) (triangle q)
 triangle (par-A p q) = par-A (triangle p) (triangle q)
 triangle par-I = par-I
 triangle (par-B p q) = par-B (triangle p) (triangle q)
+triangle par-bell = par-bell
 triangle (par-app p q) = app-contract _ _ (triangle p) (triangle q)
 triangle (fire p q r) = rule-contract r (triangle p) (triangle q)
 

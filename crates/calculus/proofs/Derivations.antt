@@ -27,6 +27,7 @@ follows-has Follows.by-A (Among.also m (Among.also k Among.all)) tree = Has.has-
 follows-has Follows.by-I Among.all tree = Has.has-I
 follows-has Follows.by-B (Among.also m (Among.also k Among.all)) tree = Has.has-B (tree _ m) (tree _ k)
 follows-has Follows.by-s (Among.also m (Among.also k Among.all)) tree = Has.has-s (tree _ m) (tree _ k)
+follows-has Follows.by-K Among.all tree = Has.has-K
 
 -- Each judgement of a derivation has a tree.
 pub members-have : {js : List Judgement} → Derivation js → (j : Judgement) → List·Memᴰ j js → Tree j
@@ -49,15 +50,15 @@ derivation-append Derivation.start e = e
 derivation-append (Derivation.line f a d) e = Derivation.line f (among-append _ a) (derivation-append d e)
 
 -- What follows from no premise is derivable.
-pub follows-none : {name : Name} {j : Judgement} → Follows name [] j → Derivable j
+abbrev pub follows-none : {name : Name} {j : Judgement} → Follows name [] j → Derivable j
 follows-none f = record { earlier = _; derivation = Derivation.line f Among.all Derivation.start }
 
 -- What follows from a derivable judgement is derivable.
-pub follows-one : {name : Name} {i j : Judgement} → Follows name (i ∷ []) j → Derivable i → Derivable j
+abbrev pub follows-one : {name : Name} {i j : Judgement} → Follows name (i ∷ []) j → Derivable i → Derivable j
 follows-one f d = record { earlier = _; derivation = Derivation.line f (Among.also (List·Memᴰ·head refl) Among.all) (d .derivation) }
 
 -- What follows from two derivable judgements is derivable.
-pub follows-two : {name : Name} {i k j : Judgement} → Follows name (i ∷ k ∷ []) j → Derivable i → Derivable k → Derivable j
+abbrev pub follows-two : {name : Name} {i k j : Judgement} → Follows name (i ∷ k ∷ []) j → Derivable i → Derivable k → Derivable j
 follows-two {i} f d e =
     let both = derivation-append (d .derivation) (e .derivation) in
     let second = Memᴰ·append-right (i ∷ d .earlier) (List·Memᴰ·head refl) in
@@ -73,6 +74,7 @@ has-derivation (Has.has-A h k) = follows-two Follows.by-A (has-derivation h) (ha
 has-derivation Has.has-I = follows-none Follows.by-I
 has-derivation (Has.has-B h k) = follows-two Follows.by-B (has-derivation h) (has-derivation k)
 has-derivation (Has.has-s h k) = follows-two Follows.by-s (has-derivation h) (has-derivation k)
+has-derivation Has.has-K = follows-none Follows.by-K
 
 -- A judgement is derivable exactly when it has a tree.
 pub derivable-has : (G : Context) (t : Term) (W : Ty) → Derivable (Judgement.judge G t W) ↔ Has G t W

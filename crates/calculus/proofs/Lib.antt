@@ -1,5 +1,7 @@
 -- The theorems about the definitions, in the order of the argument.
+pub mod Bells
 pub mod PrefixCode
+pub mod Heads
 pub mod Order
 pub mod Confluence
 pub mod SubjectReduction
@@ -7,4 +9,5 @@ pub mod Derivations
 pub mod Sizes
 pub mod Runs
 pub mod Results
+pub mod BellFree
 pub mod Ranges

@@ -93,17 +93,20 @@ says (Term.H r t) = says-leftmost node-H r t (next r) (next t) (says r) (says t)
 says (Term.A s t) = says-leftmost node-A s t (next s) (next t) (says s) (says t)
 says Term.I = Normal.normal-I
 says (Term.B u s) = says-leftmost node-B u s (next u) (next s) (says u) (says s)
+says (Term.bell k) = Normal.normal-bell
 says (Term.app Term.J t) = says-rule Rule.rule-1
 says (Term.app (Term.R t) u) = says-rule Rule.rule-2
 says (Term.app (Term.H r t) u) = says-rule Rule.rule-3
 says (Term.app (Term.A s t) u) = says-rule Rule.rule-4
 says (Term.app Term.I t) = says-rule Rule.rule-5
+says (Term.app (Term.bell k) t) = says-rule Rule.rule-12
 says (Term.app (Term.B u s) Term.J) = says-rule Rule.rule-6
 says (Term.app (Term.B u s) (Term.R t)) = says-rule Rule.rule-7
 says (Term.app (Term.B u s) (Term.H r t)) = says-rule Rule.rule-8
 says (Term.app (Term.B u s) (Term.A r t)) = says-rule Rule.rule-9
 says (Term.app (Term.B u s) Term.I) = says-rule Rule.rule-10
 says (Term.app (Term.B u s) (Term.B r t)) = says-rule Rule.rule-11
+says (Term.app (Term.B u s) (Term.bell k)) = says-rule Rule.rule-13
 says (Term.app (Term.B u s) (Term.app f a)) = says-argument u s f a (next (Term.app f a)) (says (Term.app f a))
 says (Term.app (Term.app f a) u) = says-function f a u (next (Term.app f a)) (says (Term.app f a))
 
@@ -128,6 +131,8 @@ next-rule Rule.rule-8 = refl
 next-rule Rule.rule-9 = refl
 next-rule Rule.rule-10 = refl
 next-rule Rule.rule-11 = refl
+next-rule Rule.rule-12 = refl
+next-rule Rule.rule-13 = refl
 
 -- the step of the left part is that of the whole
 next-first :

@@ -3,27 +3,60 @@
 use Prim.Native.Nat.{ℕ, suc, _+_, _<_}
 use mathlib.Core.Path.{_≡_, refl, sym, _∙_, ap, ap₂, subst}
 use mathlib.Core.Logic.{_↔_, ⊎-elim}
-use mathlib.Core.Bool.{Bool, true, false}
+use mathlib.Core.Bool.{Bool, true, false, not, _&&_, false≢true}
 use mathlib.Core.Option.{Option, none, some}
-use mathlib.Core.List.{List, [], _∷_, _++_, append-nil, append-assoc, append-cancel-left, List·Memᴰ, List·Memᴰ·head, List·Memᴰ·tail, List·Memᴰ·not-nil, List·Memᴰ·cases-cons, List·Memᴰ·append-cases, Memᴰ·append-left, Memᴰ·append-right}
+use mathlib.Core.List.{List, [], _∷_, _++_, map, append-nil, append-assoc, append-cancel-left, List·Memᴰ, List·Memᴰ·head, List·Memᴰ·tail, List·Memᴰ·not-nil, List·Memᴰ·cases-cons, List·Memᴰ·append-cases, Memᴰ·append-left, Memᴰ·append-right, Memᴰ·map}
 use lib.Dec.{eqb}
 use lib.ListN.{length, length-append}
-use borrow.Author.Tests.{eqb-true}
+use borrow.Author.Tests.{eqb-true, eq-eqb, ne-eqb, not-true}
 use native.Mathlib.Omega.{arith}
+use Rattle.calculus.specs.Bell.{Bell, stands}
 use Rattle.calculus.specs.Letter.{Letter, byte, alphabet, chosen, find, letterOf}
 use Rattle.calculus.specs.Term.{Term, text, size, Normal}
 use Rattle.calculus.specs.Parse.{Item, one, two, push, items, single, termOf}
+use Rattle.calculus.proofs.Bells.{and-both, row-listed, listed-stands}
+
+-- no byte of the list stands in it again
+abbrev distinct : List ℕ → Bool
+distinct [] = true
+distinct (b ∷ bs) = not (stands b bs) && distinct bs
+
+-- all letters have different bytes
+letters-distinct : distinct (map byte alphabet) ≡ true
+letters-distinct = refl
+
+-- each letter is in the alphabet
+listed : (l : Letter) → List·Memᴰ l alphabet
+listed Letter.J = search (List·Memᴰ·head, List·Memᴰ·tail) depth 9
+listed Letter.R = search (List·Memᴰ·head, List·Memᴰ·tail) depth 9
+listed Letter.H = search (List·Memᴰ·head, List·Memᴰ·tail) depth 9
+listed Letter.A = search (List·Memᴰ·head, List·Memᴰ·tail) depth 9
+listed Letter.I = search (List·Memᴰ·head, List·Memᴰ·tail) depth 9
+listed Letter.B = search (List·Memᴰ·head, List·Memᴰ·tail) depth 9
+listed Letter.stop = search (List·Memᴰ·head, List·Memᴰ·tail) depth 9
+listed (Letter.bell k) = let row = Memᴰ·map Letter.bell (row-listed k) in search (List·Memᴰ·tail, row) depth 9
+
+-- a letter of the list is found by its byte, where no two have one byte
+found : (l : Letter) (ls : List Letter) → List·Memᴰ l ls → distinct (map byte ls) ≡ true → find (byte l) ls ≡ some l
+found l [] m e = absurd (List·Memᴰ·not-nil m)
+found l (x ∷ ls) (List·Memᴰ·head same) e =
+    ap (λ (t : Bool). chosen t x (find (byte l) ls)) (eq-eqb (byte l) (byte x) (ap byte same)) ∙ ap some (sym same)
+found l (x ∷ ls) (List·Memᴰ·tail m) e = ap (λ (t : Bool). chosen t x (find (byte l) ls)) (ne-eqb (byte l) (byte x) other) ∙ found l ls m (parted .1)
+  where
+    parted : (not (stands (byte x) (map byte ls)) ≡ true) × (distinct (map byte ls) ≡ true)
+    parted = and-both (not (stands (byte x) (map byte ls))) (distinct (map byte ls)) e
+
+    other : ¬ (byte l ≡ byte x)
+    other same = false≢true (sym (not-true (stands (byte x) (map byte ls)) (parted .0)) ∙ ap (λ (b : ℕ). stands b (map byte ls)) (sym same) ∙ listed-stands (Memᴰ·map byte m))
 
 -- a letter is the letter of its byte
 pub letterOf-byte : (l : Letter) → letterOf (byte l) ≡ some l
 unfolding letterOf
-letterOf-byte Letter.J = refl
-letterOf-byte Letter.R = refl
-letterOf-byte Letter.H = refl
-letterOf-byte Letter.A = refl
-letterOf-byte Letter.I = refl
-letterOf-byte Letter.B = refl
-letterOf-byte Letter.stop = refl
+letterOf-byte l = found l alphabet (listed l) letters-distinct
+
+-- letters of the same byte are the same
+pub byte-injective : (l m : Letter) → byte l ≡ byte m → l ≡ m
+byte-injective l m e = cc (sym (letterOf-byte l) ∙ ap letterOf e ∙ letterOf-byte m)
 
 -- what is found in a list of letters has the byte looked for
 byte-find : (b : ℕ) (ls : List Letter) (l : Letter) → find b ls ≡ some l → byte l ≡ b
@@ -59,6 +92,7 @@ items-text (Term.A s t) bytes = two-text (byte Letter.A) Term.A s t (items-text 
 items-text Term.I bytes = refl
 items-text (Term.B u s) bytes = two-text (byte Letter.B) Term.B u s (items-text u) (items-text s) bytes
 items-text (Term.app t u) bytes = two-text (byte Letter.stop) Term.app t u (items-text t) (items-text u) bytes
+items-text (Term.bell k) bytes = ap (λ (o : Option Letter). push (byte (Letter.bell k)) o (items bytes)) (letterOf-byte (Letter.bell k))
 
 -- the bytes of a list of items
 abbrev pub itemsText : List Item → List ℕ
@@ -87,6 +121,7 @@ push-bytes Letter.A is = two-bytes (byte Letter.A) Term.A (λ t u. refl) is
 push-bytes Letter.I is = refl
 push-bytes Letter.B is = two-bytes (byte Letter.B) Term.B (λ t u. refl) is
 push-bytes Letter.stop is = two-bytes (byte Letter.stop) Term.app (λ t u. refl) is
+push-bytes (Letter.bell k) is = refl
 
 -- reading loses no byte: the items of any bytes have those bytes
 pub items-bytes : (bytes : List ℕ) → itemsText (items bytes) ≡ bytes
@@ -141,6 +176,7 @@ length-text (Term.A s t) = ap suc (length-both s t (length-text s) (length-text 
 length-text Term.I = refl
 length-text (Term.B u s) = ap suc (length-both u s (length-text u) (length-text s))
 length-text (Term.app t u) = ap suc (length-both t u (length-text t) (length-text u))
+length-text (Term.bell k) = refl
 
 -- a term has a letter
 pub size-positive : (t : Term) → 0 < size t
@@ -159,6 +195,10 @@ HasStop s = List·Memᴰ (byte Letter.stop) s
 no-stop : {b : ℕ} (s u : List ℕ) → ¬ (byte Letter.stop ≡ b) → ¬ HasStop s → ¬ HasStop u → ¬ HasStop (b ∷ (s ++ u))
 no-stop s u n first second m = ⊎-elim n (λ (k : HasStop (s ++ u)). ⊎-elim first second (List·Memᴰ·append-cases s k)) (List·Memᴰ·cases-cons m)
 
+-- no bell's letter is the full stop
+pub bell-no-stop : (k : Bell) → ¬ (byte Letter.stop ≡ byte (Letter.bell k))
+bell-no-stop k e = let z : _≡_ {A = ℕ} 0 1 = cc (byte-injective Letter.stop (Letter.bell k) e) in omega arith
+
 -- a normal term has no full stop
 normal-no-stop : {t : Term} → Normal t → ¬ HasStop (text t)
 normal-no-stop Normal.normal-J = no-stop [] [] (omega arith) List·Memᴰ·not-nil List·Memᴰ·not-nil
@@ -167,6 +207,7 @@ normal-no-stop (Normal.normal-H {r = r} {t = t} n m) = no-stop (text r) (text t)
 normal-no-stop (Normal.normal-A {s = s} {t = t} n m) = no-stop (text s) (text t) (omega arith) (normal-no-stop n) (normal-no-stop m)
 normal-no-stop Normal.normal-I = no-stop [] [] (omega arith) List·Memᴰ·not-nil List·Memᴰ·not-nil
 normal-no-stop (Normal.normal-B {u = u} {s = s} n m) = no-stop (text u) (text s) (omega arith) (normal-no-stop n) (normal-no-stop m)
+normal-no-stop (Normal.normal-bell {k = k}) = no-stop [] [] (bell-no-stop k) List·Memᴰ·not-nil List·Memᴰ·not-nil
 
 -- a term that takes two is normal where a letter in front of both has no full stop and they are normal without one
 both-normal :
@@ -183,6 +224,7 @@ no-stop-normal (Term.A s t) n = both-normal s t Normal.normal-A (no-stop-normal 
 no-stop-normal Term.I n = Normal.normal-I
 no-stop-normal (Term.B u s) n = both-normal u s Normal.normal-B (no-stop-normal u) (no-stop-normal s) n
 no-stop-normal (Term.app t u) n = absurd (n (List·Memᴰ·head refl))
+no-stop-normal (Term.bell k) n = Normal.normal-bell
 
 -- normal terms are those whose text lacks the full stop
 pub normal-text : (t : Term) → Normal t ↔ (List·Memᴰ (byte Letter.stop) (text t) → ⊥)

@@ -20,6 +20,8 @@ rule-size Rule.rule-8 = omega arith
 rule-size Rule.rule-9 = omega arith
 rule-size Rule.rule-10 = omega arith
 rule-size Rule.rule-11 = omega arith
+rule-size Rule.rule-12 = omega arith
+rule-size Rule.rule-13 = omega arith
 
 -- one change at most doubles the size
 pub change-size : {n : ℕ} {p : Place} {t u : Term} → Change n p t u → size u ≤ 2 * size t

@@ -15,6 +15,7 @@ weaken-empty (Has.has-A h k) = Has.has-A (weaken-empty h) k
 weaken-empty Has.has-I = Has.has-I
 weaken-empty (Has.has-B h k) = Has.has-B (weaken-empty h) (weaken-empty k)
 weaken-empty (Has.has-s h k) = Has.has-s (weaken-empty h) k
+weaken-empty Has.has-K = Has.has-K
 
 -- A rule keeps each type of its left side.
 pub rule-keeps : {n : ℕ} {t u : Term} {G : Context} {W : Ty} → Rule n t u → Has G t W → Has G u W
@@ -29,6 +30,8 @@ rule-keeps Rule.rule-8 (Has.has-s h (Has.has-H k l)) = Has.has-f (Has.has-s h k)
 rule-keeps Rule.rule-9 (Has.has-s h (Has.has-A k l)) = Has.has-A (Has.has-s h k) l
 rule-keeps Rule.rule-10 (Has.has-s h Has.has-I) = Has.has-I
 rule-keeps Rule.rule-11 (Has.has-s h (Has.has-B k l)) = Has.has-B (Has.has-s h k) (Has.has-s h l)
+rule-keeps Rule.rule-12 (Has.has-f h k) = Has.has-H h k
+rule-keeps Rule.rule-13 (Has.has-s h Has.has-K) = Has.has-K
 
 -- A change of any part of a term keeps each type of the term.
 pub change-keeps : {n : ℕ} {p : Place} {t u : Term} {G : Context} {W : Ty} → Change n p t u → Has G t W → Has G u W

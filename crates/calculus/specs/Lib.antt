@@ -1,4 +1,6 @@
 -- The calculus as definitions. A reader who believes these files believes what every promise and theorem is about.
+pub mod Ascii
+pub mod Bell
 pub mod Letter
 pub mod Term
 pub mod Parse
@@ -10,5 +12,5 @@ pub mod Run
 pub mod Types
 pub mod Typing
 pub mod Derivation
+pub mod BellFree
 pub mod Limits
-pub mod Ascii

@@ -1,7 +1,7 @@
 -- The term that a text is of, as a function on any bytes: what `text` undoes. `proofs/PrefixCode.antt` shows that it does.
 -- The bytes are taken from the last to the first. A letter takes the terms that stand to its right; a byte that is no letter, or
 -- a letter that lacks a term, stays loose.
--- REQUIREMENTS, Terms.
+-- REQUIREMENTS, Terms, Bells.
 use Prim.Native.Nat.{ℕ}
 use mathlib.Core.List.{List, [], _∷_}
 use mathlib.Core.Option.{Option, none, some}
@@ -36,6 +36,7 @@ push b (some Letter.A) items = two b Term.A items
 push b (some Letter.I) items = Item.whole Term.I ∷ items
 push b (some Letter.B) items = two b Term.B items
 push b (some Letter.stop) items = two b Term.app items
+push b (some (Letter.bell k)) items = Item.whole (Term.bell k) ∷ items
 
 abbrev pub items : List ℕ → List Item
 items [] = []

@@ -1,5 +1,6 @@
--- The eleven rules, numbered as figure 1 has them (REQUIREMENTS, Rules).
+-- The thirteen rules: figure 1's eleven, with its numbers, and two for bells (REQUIREMENTS, Rules).
 use Prim.Native.Nat.{ℕ}
+use Rattle.calculus.specs.Bell.{Bell}
 use Rattle.calculus.specs.Term.{Term}
 
 -- `Rule n x y`: by rule n, x gives y
@@ -15,3 +16,5 @@ pub data Rule : ℕ → Term → Term → Type 0 where
   rule-9 : {u s r t : Term} → Rule 9 (Term.app (Term.B u s) (Term.A r t)) (Term.A (Term.app (Term.B u s) r) t)
   rule-10 : {u s : Term} → Rule 10 (Term.app (Term.B u s) Term.I) Term.I
   rule-11 : {u s r t : Term} → Rule 11 (Term.app (Term.B u s) (Term.B r t)) (Term.B (Term.app (Term.B u s) r) (Term.app (Term.B u s) t))
+  rule-12 : {k : Bell} {t : Term} → Rule 12 (Term.app (Term.bell k) t) (Term.H (Term.bell k) t)
+  rule-13 : {u s : Term} {k : Bell} → Rule 13 (Term.app (Term.B u s) (Term.bell k)) (Term.bell k)

@@ -1,7 +1,8 @@
--- Types and their text (REQUIREMENTS, Types): simple types are atoms and arrows between simple types, contexts are lists of simple types, and a
+-- Types and their text (REQUIREMENTS, Types, Bells): simple types are atoms and arrows between simple types, contexts are lists of simple types, and a
 -- type is one of the two. `proofs/Parse.antt` of `types` shows that no text is of both.
 use Prim.Native.Nat.{ℕ, _≤_}
 use mathlib.Core.List.{List, [], _∷_, _++_}
+use native.Mathlib.Omega.{arith}
 
 -- a letter `a` to `z`
 pub record Atom : Type 0 where
@@ -12,6 +13,13 @@ pub record Atom : Type 0 where
 pub data Simple : Type 0 where
   atom : Atom → Simple
   arrow : (U T : Simple) → Simple
+
+-- `b`, the type of bells
+abbrev pub bellAtom : Atom
+bellAtom = record { letter = 98; from-a = omega arith; to-z = omega arith }
+
+abbrev pub bellType : Simple
+bellType = Simple.atom bellAtom
 
 pub data Context : Type 0 where
   empty : Context

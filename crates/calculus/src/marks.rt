@@ -3,6 +3,9 @@ pub const FIRST_ATOM: u8 = b'a';
 
 pub const LAST_ATOM: u8 = b'z';
 
+// `b`: the type of bells.
+pub const BELL: u8 = b'b';
+
 // `>`: from one simple type to another.
 pub const ARROW: u8 = b'>';
 

@@ -2,3 +2,5 @@
 pub const F: u8 = b'f';
 
 pub const S: u8 = b's';
+
+pub const K: u8 = b'K';

@@ -122,6 +122,7 @@ few-premises Name.f = omega arith
 few-premises Name.I = omega arith
 few-premises Name.B = omega arith
 few-premises Name.s = omega arith
+few-premises Name.K = omega arith
 
 -- what two fields are found to name is as many as were looked for
 found-count :

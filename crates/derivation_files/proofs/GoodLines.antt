@@ -104,6 +104,7 @@ name-byte Name.f = refl
 name-byte Name.I = refl
 name-byte Name.B = refl
 name-byte Name.s = refl
+name-byte Name.K = refl
 
 -- what is found in a list of names has the byte looked for
 byte-find : (b : ℕ) (others : List Name) (name : Name) → findName b others ≡ some name → nameByte name ≡ b
@@ -161,6 +162,7 @@ follows-listed Follows.by-A = (Premises.two _ _, refl, refl)
 follows-listed Follows.by-I = (Premises.none, refl, refl)
 follows-listed Follows.by-B = (Premises.two _ _, refl, refl)
 follows-listed Follows.by-s = (Premises.two _ _, refl, refl)
+follows-listed Follows.by-K = (Premises.none, refl, refl)
 
 -- what two fields name is what they are found to name
 pub names-found :

@@ -1,13 +1,13 @@
 -- The test `isInstance` holds exactly when the judgement follows by the rule from its premises: equal texts are those of equal trees,
 -- since the texts are prefix codes. Assumes nothing.
-use mathlib.Core.Path.{_≡_}
+use mathlib.Core.Path.{_≡_, refl}
 use mathlib.Core.Bool.{Bool, true, _&&_, false≢true}
 use mathlib.Core.List.{List, [], _∷_}
 use mathlib.Core.Logic.{_↔_}
 use Rattle.slices.proofs.Decimal.{and-both}
 use Rattle.slices.proofs.Same.{same-refl, same-equal}
 use Rattle.calculus.specs.Term.{Term, text}
-use Rattle.calculus.specs.Types.{Simple, Context, Ty, simpleText, contextText, tyText}
+use Rattle.calculus.specs.Types.{Simple, Context, Ty, bellType, simpleText, contextText, tyText}
 use Rattle.calculus.specs.Typing.{Judgement, Name, Follows}
 use Rattle.calculus.proofs.PrefixCode.{text-injective}
 use Rattle.types.proofs.Parse.{ty-injective, simple-injective, context-injective}
@@ -23,11 +23,13 @@ use Rattle.derivation_files.specs.Instance.{
   asksI,
   asksB,
   asksS,
+  asksK,
   Premises,
   withNone,
   withOne,
   withTwo,
   termIn,
+  isBellTerm,
   isInstance,
 }
 
@@ -170,6 +172,17 @@ s-follows G v W (Judgement.judge D s (Ty.context F)) (Judgement.judge E t X) ask
     let (same-D, same-E) = and-both (sameContext D G) (sameContext E F) contexts in
     rw (equal-terms v (Term.app s t) built, equal-contexts D G same-D, equal-contexts E F same-E, equal-types X W same-X) Follows.by-s
 
+-- what passes K's tests follows by K
+K-follows : (G : Context) (t : Term) (W : Ty) → asksK G W ≡ true → isBellTerm t ≡ true → Follows Name.K [] (Judgement.judge G t W)
+K-follows G Term.J W asked built = absurd (false≢true built)
+K-follows G (Term.R t) W asked built = absurd (false≢true built)
+K-follows G (Term.H r t) W asked built = absurd (false≢true built)
+K-follows G (Term.A s t) W asked built = absurd (false≢true built)
+K-follows G Term.I W asked built = absurd (false≢true built)
+K-follows G (Term.B u s) W asked built = absurd (false≢true built)
+K-follows G (Term.app t u) W asked built = absurd (false≢true built)
+K-follows G (Term.bell k) W asked built = rw (equal-types W (Ty.simple bellType) asked) Follows.by-K
+
 -- a judgement that is an instance of the rule follows by it
 instance-sound : (name : Name) (premises : Premises) (j : Judgement) → isInstance name premises j ≡ true → Follows name (listed premises) j
 instance-sound Name.J premises (Judgement.judge G t W) = from-none (J-follows G t W) premises
@@ -180,12 +193,14 @@ instance-sound Name.f premises (Judgement.judge G t W) = from-two (H-follows Nam
 instance-sound Name.I premises (Judgement.judge G t W) = from-none (I-follows G t W) premises
 instance-sound Name.B premises (Judgement.judge G t W) = from-two (B-follows G t W) premises
 instance-sound Name.s premises (Judgement.judge G t W) = from-two (s-follows G t W) premises
+instance-sound Name.K premises (Judgement.judge G t W) = from-none (K-follows G t W) premises
 
 -- a judgement that follows by the rule is an instance of it
 instance-complete :
     {name : Name} {j : Judgement} (premises : Premises) → Follows name (listed premises) j → isInstance name premises j ≡ true
 instance-complete Premises.none Follows.by-J = simp same-refl
 instance-complete Premises.none Follows.by-I = simp same-refl
+instance-complete Premises.none Follows.by-K = refl
 instance-complete (Premises.one i) Follows.by-R = simp same-refl
 instance-complete (Premises.two i k) Follows.by-H = simp same-refl
 instance-complete (Premises.two i k) Follows.by-f = simp same-refl

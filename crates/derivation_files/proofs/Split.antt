@@ -4,12 +4,14 @@ use Prim.Native.Nat.{ℕ, _≤_, _<_}
 use mathlib.Core.Path.{_≡_, refl, sym, _∙_, ap, ap₂}
 use mathlib.Core.Bool.{Bool, true, false}
 use mathlib.Core.List.{List, [], _∷_, _++_}
-use lib.Dec.{eqb}
-use borrow.Author.Tests.{eqb-true, eq-eqb}
+use lib.Dec.{ltb, eqb}
+use borrow.Author.Tests.{ltb-true, eqb-true, eq-eqb}
 use native.Mathlib.Omega.{arith}
+use Rattle.calculus.specs.Bell.{byteIn}
 use Rattle.calculus.specs.Term.{Term, text}
 use Rattle.calculus.specs.Types.{Sign, signText, written}
 use Rattle.calculus.specs.Typing.{Name, nameByte}
+use Rattle.calculus.proofs.Bells.{each-bell}
 use Rattle.slices.specs.Split.{consFirst, cutOr, split, allButLast, lastByte}
 use Rattle.slices.proofs.Splitting.{Free, free-append, split-piece, split-last}
 
@@ -112,6 +114,7 @@ high-name Name.f = omega arith
 high-name Name.I = omega arith
 high-name Name.B = omega arith
 high-name Name.s = omega arith
+high-name Name.K = omega arith
 
 -- no tab and no line feed stands in the texts of terms, contexts, types and names
 module _ (mark : ℕ) (low : mark ≤ 10) where
@@ -124,6 +127,7 @@ module _ (mark : ℕ) (low : mark ≤ 10) where
   free-text Term.I = (omega arith, tt)
   free-text (Term.B u s) = (omega arith, free-append mark (text u) (text s) (free-text u) (free-text s))
   free-text (Term.app t u) = (omega arith, free-append mark (text t) (text u) (free-text t) (free-text u))
+  free-text (Term.bell k) = let high : 10 < byteIn k = ltb-true 10 (byteIn k) (each-bell (ltb 10) refl k) in (omega arith, tt)
 
   -- in a sign's text
   free-sign : (g : Sign) → Free mark (signText g)

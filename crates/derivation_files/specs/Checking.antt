@@ -62,6 +62,7 @@ premiseCount Name.f = 2
 premiseCount Name.I = 0
 premiseCount Name.B = 2
 premiseCount Name.s = 2
+premiseCount Name.K = 0
 
 -- the premises that the two fields name, if each is what a rule with that many premises has there
 abbrev pub premisesOf : (count : ℕ) (earlier : List Judgement) (first second : Option Premise) → Option Premises

@@ -1,11 +1,11 @@
 -- Whether a judgement is an instance of a rule, given its premises, as a test on trees: what the rule asks of contexts and types, and
--- that the term is the one that the rule builds of the premises' terms. `proofs/Instance.antt` shows that the test holds exactly when
+-- that the term is one that the rule builds of the premises' terms. `proofs/Instance.antt` shows that the test holds exactly when
 -- the judgement follows.
 -- REQUIREMENTS, Typing.
-use mathlib.Core.Bool.{Bool, false, _&&_}
+use mathlib.Core.Bool.{Bool, true, false, _&&_}
 use Rattle.slices.specs.Same.{same}
 use Rattle.calculus.specs.Term.{Term, text}
-use Rattle.calculus.specs.Types.{Simple, Context, Ty, simpleText, contextText, tyText}
+use Rattle.calculus.specs.Types.{Simple, Context, Ty, bellType, simpleText, contextText, tyText}
 use Rattle.calculus.specs.Typing.{Judgement, Name}
 
 -- equal trees are those with equal texts
@@ -59,6 +59,9 @@ abbrev pub asksS : Judgement → Judgement → (G : Context) (W : Ty) → Bool
 asksS (Judgement.judge D s (Ty.simple U)) (Judgement.judge E t X) G W = false
 asksS (Judgement.judge D s (Ty.context F)) (Judgement.judge E t X) G W = sameContext D G && sameContext E F && sameTy X W
 
+abbrev pub asksK : (G : Context) (W : Ty) → Bool
+asksK G W = sameTy W (Ty.simple bellType)
+
 -- the premises that a rule has: none, one or two judgements
 pub data Premises : Type 0 where
   none : Premises
@@ -90,11 +93,23 @@ asks Name.f premises G W = withTwo (λ i k. asksH i k G W) premises
 asks Name.I premises G W = withNone (asksI G W) premises
 asks Name.B premises G W = withTwo (λ i k. asksB i k G W) premises
 asks Name.s premises G W = withTwo (λ i k. asksS i k G W) premises
+asks Name.K premises G W = withNone (asksK G W) premises
 
 abbrev pub termIn : Judgement → Term
 termIn (Judgement.judge G t W) = t
 
--- the term is the one that the rule builds of the premises' terms
+-- the term is a bell
+abbrev pub isBellTerm : Term → Bool
+isBellTerm Term.J = false
+isBellTerm (Term.R t) = false
+isBellTerm (Term.H r t) = false
+isBellTerm (Term.A s t) = false
+isBellTerm Term.I = false
+isBellTerm (Term.B u s) = false
+isBellTerm (Term.app t u) = false
+isBellTerm (Term.bell k) = true
+
+-- the term is the one that the rule builds of the premises' terms; for K, any bell
 abbrev pub builds : Name → Premises → Term → Bool
 builds Name.J premises t = withNone (sameTerm t Term.J) premises
 builds Name.R premises t = withOne (λ i. sameTerm t (Term.R (termIn i))) premises
@@ -104,6 +119,7 @@ builds Name.f premises t = withTwo (λ i k. sameTerm t (Term.app (termIn i) (ter
 builds Name.I premises t = withNone (sameTerm t Term.I) premises
 builds Name.B premises t = withTwo (λ i k. sameTerm t (Term.B (termIn i) (termIn k))) premises
 builds Name.s premises t = withTwo (λ i k. sameTerm t (Term.app (termIn i) (termIn k))) premises
+builds Name.K premises t = withNone (isBellTerm t) premises
 
 abbrev pub isInstance : Name → Premises → Judgement → Bool
 isInstance name premises (Judgement.judge G t W) = asks name premises G W && builds name premises t

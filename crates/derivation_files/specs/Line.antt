@@ -56,7 +56,7 @@ abbrev pub judgementOf : (context term type : List ℕ) → Option Judgement
 judgementOf context term type = judgementIf (contextOf context) (termOf term) (typeOf type)
 
 abbrev pub names : List Name
-names = Name.J ∷ Name.R ∷ Name.H ∷ Name.A ∷ Name.f ∷ Name.I ∷ Name.B ∷ Name.s ∷ []
+names = Name.J ∷ Name.R ∷ Name.H ∷ Name.A ∷ Name.f ∷ Name.I ∷ Name.B ∷ Name.s ∷ Name.K ∷ []
 
 abbrev pub chosenName : Bool → Name → Option Name → Option Name
 chosenName true name others = some name

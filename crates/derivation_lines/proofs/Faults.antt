@@ -118,6 +118,7 @@ some-item b (some Letter.A) is = two-some b Term.A is
 some-item b (some Letter.I) is = refl
 some-item b (some Letter.B) is = two-some b Term.B is
 some-item b (some Letter.stop) is = two-some b Term.app is
+some-item b (some (Letter.bell k)) is = refl
 
 -- reading has no number exactly where the items are the terms owed
 reading-items : (k place : ℕ) (bytes : List ℕ) → eqb (numberIn (readingFrom k place bytes)) 0 ≡ wholes k (items bytes)
@@ -137,6 +138,7 @@ reading-items (suc k) place (b ∷ bytes) = go (letterOf b) (λ n. reading-items
     go (some Letter.I) later = later k
     go (some Letter.B) later = later (suc (suc k)) ∙ sym (two-taken k b Term.B (items bytes))
     go (some Letter.stop) later = later (suc (suc k)) ∙ sym (two-taken k b Term.app (items bytes))
+    go (some (Letter.bell l)) later = later k
 
 -- reading has no number exactly where the bytes are a term's text
 pub reading-term : (bytes : List ℕ) → eqb (numberIn (readingOf bytes)) 0 ≡ isSome (termOf bytes)

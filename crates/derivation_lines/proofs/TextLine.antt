@@ -237,6 +237,17 @@ module _
         ap (λ (x : Texts). instanceText (ruleOf (some name)) x oneTexts twoTexts) same ∙
         ap₂ (λ (y z : Texts). instanceText (ruleOf (some name)) (textsOf j) y z) p q ∙ instance-two name j i k e
 
+    alone :
+        (name : Name) → instanceAt file (ruleOf (some name)) (six .own) one two ≡ isInstance name Premises.none j →
+        Verdict mine
+        (unless (isDashed one && isDashed two) BadPremise
+        (unless (instanceAt file (ruleOf (some name)) (six .own) one two) NoInstance Follows))
+        (foundInstance name j
+        (premisesNone (noPremise (premiseOf (textAt (six .first) file))) (noPremise (premiseOf (textAt (six .second) file)))))
+    alone name named =
+        by-none mine name j same (isDashed one && isDashed two) (instanceAt file (ruleOf (some name)) (six .own) one two)
+        (noPremise (premiseOf (textAt (six .first) file))) (noPremise (premiseOf (textAt (six .second) file))) dashes named
+
     both :
         (name : Name) →
         ((i k : Judgement) → oneTexts ≡ textsOf i → twoTexts ≡ textsOf k →
@@ -252,10 +263,7 @@ module _
         (instanceAt file (ruleOf (some name)) (six .own) one two) cites-one cites-two refl named
 
     by-rule : (name : Name) → ByRule name j
-    by-rule Name.J =
-        by-none mine Name.J j same (isDashed one && isDashed two) (instanceAt file (ruleOf (some Name.J)) (six .own) one two)
-        (noPremise (premiseOf (textAt (six .first) file))) (noPremise (premiseOf (textAt (six .second) file))) dashes
-        (none-named Name.J refl)
+    by-rule Name.J = alone Name.J (none-named Name.J refl)
     by-rule Name.R =
         by-one mine Name.R j same file (length file) (isLine one && isDashed two)
         (instanceAt file (ruleOf (some Name.R)) (six .own) one two)
@@ -265,12 +273,10 @@ module _
     by-rule Name.H = both Name.H (two-named Name.H refl)
     by-rule Name.A = both Name.A (two-named Name.A refl)
     by-rule Name.f = both Name.f (two-named Name.f refl)
-    by-rule Name.I =
-        by-none mine Name.I j same (isDashed one && isDashed two) (instanceAt file (ruleOf (some Name.I)) (six .own) one two)
-        (noPremise (premiseOf (textAt (six .first) file))) (noPremise (premiseOf (textAt (six .second) file))) dashes
-        (none-named Name.I refl)
+    by-rule Name.I = alone Name.I (none-named Name.I refl)
     by-rule Name.B = both Name.B (two-named Name.B refl)
     by-rule Name.s = both Name.s (two-named Name.s refl)
+    by-rule Name.K = alone Name.K (none-named Name.K refl)
 
   -- the fields are well formed: 16 to 18, or the line is good
   by-name :
@@ -289,6 +295,7 @@ module _
   by-name j same (some Name.I) = by-rule j same Name.I
   by-name j same (some Name.B) = by-rule j same Name.B
   by-name j same (some Name.s) = by-rule j same Name.s
+  by-name j same (some Name.K) = by-rule j same Name.K
 
   -- there are six fields: 15 to 18, or the line is good
   by-fields :

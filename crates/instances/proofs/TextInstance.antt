@@ -9,18 +9,21 @@ use mathlib.Core.Option.{none, some}
 use borrow.Author.Tests.{eq-eqb, ne-eqb}
 use Rattle.slices.specs.Same.{same}
 use Rattle.slices.proofs.Same.{equal-same, same-equal, same-unique}
+use Rattle.calculus.specs.Bell.{isBell}
+use Rattle.calculus.specs.Letter.{Letter, byte}
 use Rattle.calculus.specs.Term.{Term, text}
-use Rattle.calculus.specs.Types.{Atom, Simple, Context, Ty, Sign, signText, simpleText, contextText, tyText}
+use Rattle.calculus.specs.Types.{Atom, Simple, Context, Ty, bellType, Sign, signText, simpleText, contextText, tyText}
 use Rattle.calculus.specs.Typing.{Judgement, Name}
+use Rattle.calculus.proofs.Bells.{bell-letter}
 use Rattle.types.specs.Parse.{typeOf}
 use Rattle.types.specs.Tests.{isSimple}
 use Rattle.types.specs.Scan.{simpleEnd}
 use Rattle.types.proofs.Parse.{typeOf-text, types-readable, ty-injective, simple-not-context}
 use Rattle.types.proofs.Made.{arrow-text, bind-text}
 use Rattle.derivation_files.specs.Instance.{Premises, sameContext, sameTy, asksJ, asksR, asksH, asksA, asksB, asksS}
-use Rattle.derivation_files.specs.Instance.{isInstance}
+use Rattle.derivation_files.specs.Instance.{isBellTerm, isInstance}
 use Rattle.derivation_files.specs.Checking.{premiseCount}
-use Rattle.rules.specs.Rules.{ruleOf}
+use Rattle.rules.specs.Rules.{ruleOf, isBellText}
 use Rattle.rules.specs.declared.Rule.{Rule}
 use Rattle.instances.specs.Behind.{simpleBehind}
 use Rattle.fields.specs.Fields.{Texts}
@@ -258,6 +261,23 @@ asks-S (Judgement.judge D s (Ty.simple U)) (Judgement.judge E u X) G t W =
     second-fails (sameContext D G) (same (contextText E) (simpleText U)) (same (tyText X) (tyText W)) (context-no-simple E U)
 asks-S (Judgement.judge D s (Ty.context F)) (Judgement.judge E u X) G t W = refl
 
+-- a text whose first byte is no bell's letter is no bell's
+no-bell : (b : ℕ) (s : List ℕ) → isBell b ≡ false → isBellText (b ∷ s) ≡ false
+no-bell b [] e = e
+no-bell b (c ∷ s) e = refl
+
+-- the text of a term is a bell's where the term is a bell
+bell-text : (t : Term) → isBellText (text t) ≡ isBellTerm t
+unfolding isBell
+bell-text Term.J = refl
+bell-text (Term.R t) = no-bell (byte Letter.R) (text t) refl
+bell-text (Term.H r t) = no-bell (byte Letter.H) (text r ++ text t) refl
+bell-text (Term.A s t) = no-bell (byte Letter.A) (text s ++ text t) refl
+bell-text Term.I = refl
+bell-text (Term.B u s) = no-bell (byte Letter.B) (text u ++ text s) refl
+bell-text (Term.app t u) = no-bell (byte Letter.stop) (text t ++ text u) refl
+bell-text (Term.bell k) = bell-letter k
+
 -- ---- all rules
 
 -- a line by a rule without premises
@@ -272,6 +292,7 @@ instance-none Name.f j x y e = absurd (omega arith)
 instance-none Name.I (Judgement.judge G t W) x y e = refl
 instance-none Name.B j x y e = absurd (omega arith)
 instance-none Name.s j x y e = absurd (omega arith)
+instance-none Name.K (Judgement.judge G t W) x y e = ap (λ (b : Bool). sameTy W (Ty.simple bellType) && b) (bell-text t)
 
 -- a line by a rule with one premise
 pub instance-one :
@@ -286,6 +307,7 @@ instance-one Name.f j i y e = absurd (omega arith)
 instance-one Name.I j i y e = absurd (omega arith)
 instance-one Name.B j i y e = absurd (omega arith)
 instance-one Name.s j i y e = absurd (omega arith)
+instance-one Name.K j i y e = absurd (omega arith)
 
 -- a line by a rule with two premises
 pub instance-two :
@@ -304,6 +326,7 @@ instance-two Name.B (Judgement.judge G t W) (Judgement.judge D u X) (Judgement.j
     ap (λ (b : Bool). b && same (text t) (text (Term.B u v))) (asks-B (Judgement.judge D u X) (Judgement.judge E v Y) G t W)
 instance-two Name.s (Judgement.judge G t W) (Judgement.judge D u X) (Judgement.judge E v Y) e =
     ap (λ (b : Bool). b && same (text t) (text (Term.app u v))) (asks-S (Judgement.judge D u X) (Judgement.judge E v Y) G t W)
+instance-two Name.K j i k e = absurd (omega arith)
 
 -- a test by the rule that is given
 pub asks-by :

@@ -6,13 +6,13 @@ use Prim.Native.Nat.{ℕ}
 use mathlib.Core.Bool.{Bool, false, _&&_}
 use mathlib.Core.List.{List, _++_}
 use Rattle.slices.specs.Same.{same}
-use Rattle.calculus.specs.Types.{Sign, signText}
+use Rattle.calculus.specs.Types.{Sign, signText, bellType, simpleText}
 use Rattle.types.specs.Parse.{typeOf}
 use Rattle.types.specs.Tests.{isSimple}
 use Rattle.fields.specs.Fields.{Texts}
 use Rattle.rules.specs.Rules.{buildsText}
 use Rattle.rules.specs.declared.Rule.{Rule}
-use Rattle.rules.specs.declared.Rule.the-variants.{J, R, H, A, F, I, B, S, Unknown}
+use Rattle.rules.specs.declared.Rule.the-variants.{J, R, H, A, F, I, B, S, K, Unknown}
 use Rattle.instances.specs.Behind.{simpleBehind}
 
 -- a type's text that a sign makes of two
@@ -62,6 +62,10 @@ asksTextS own first second =
     && same (second .context) (first .type)
     && same (second .type) (own .type)
 
+-- the type is `b`
+abbrev pub asksTextK : Texts → Bool
+asksTextK own = same (own .type) (simpleText bellType)
+
 -- what the rule asks of contexts and types
 abbrev pub asksText : Rule → (own first second : Texts) → Bool
 asksText J own first second = asksTextJ own
@@ -72,6 +76,7 @@ asksText F own first second = asksTextH own first second
 asksText I own first second = asksTextI own
 asksText B own first second = asksTextB own first second
 asksText S own first second = asksTextS own first second
+asksText K own first second = asksTextK own
 asksText Unknown own first second = false
 
 -- what the rule asks, and builds

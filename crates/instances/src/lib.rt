@@ -1,4 +1,4 @@
-// The eight typing rules on texts: what each asks of contexts and types, and whether a line is an instance of it.
+// The nine typing rules on texts: what each asks of contexts and types, and whether a line is an instance of it.
 use calculus::marks;
 use fields::Judged;
 use fields::texts::Span;
@@ -12,7 +12,7 @@ ghost use Rattle.fields.specs.Texts.{textAt};
 ghost use Rattle.fields.specs.Fields.{textsAt};
 ghost use Rattle.instances.specs.Behind.{simpleBehind};
 ghost use Rattle.instances.specs.TextInstance.{asksTextJ, asksTextR, asksTextH, asksTextA};
-ghost use Rattle.instances.specs.TextInstance.{asksTextI, asksTextB, asksTextS, asksText, instanceText};
+ghost use Rattle.instances.specs.TextInstance.{asksTextI, asksTextB, asksTextS, asksTextK, asksText, instanceText};
 
 // Whether a line is an instance of the rule, with those lines for premises; a premise that the rule has not is passed over.
 pub fn is_instance(file: &[u8], rule: Rule, own: Judged, first: Judged, second: Judged) -> bool
@@ -36,6 +36,7 @@ fn asks(file: &[u8], rule: Rule, own: Judged, first: Judged, second: Judged) -> 
         Rule::I => asks_i(file, own),
         Rule::B => asks_b(file, own, first, second),
         Rule::S => asks_s(file, own, first, second),
+        Rule::K => asks_k(file, own),
         Rule::Unknown => false,
     }
 }
@@ -109,6 +110,14 @@ fn asks_s(file: &[u8], own: Judged, first: Judged, second: Judged) -> bool
     same_text(file, first.context, own.context)
         && same_text(file, second.context, first.ty)
         && same_text(file, second.ty, own.ty)
+}
+
+// Rule K: the type is `b`.
+fn asks_k(file: &[u8], own: Judged) -> bool
+    ensures { λ r. ⌜ r ≡ asksTextK (textsAt own (now (file .entry))) ⌝ }
+{
+    let nothing = Span { from: 0, to: 0 };
+    is_join(file, own.ty, marks::BELL, nothing, nothing)
 }
 
 // The simple type that stands behind the first byte of a text.

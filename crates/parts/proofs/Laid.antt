@@ -7,8 +7,8 @@ use lib.ListN.{length, getD}
 use Rattle.calculus.specs.Letter.{Letter, byte}
 use Rattle.calculus.specs.Term.{Term, text, size}
 use Rattle.calculus.proofs.PrefixCode.{length-text}
+use Rattle.calculus.proofs.Heads.{headOf}
 use Rattle.parts.specs.Skip.{endAt}
-use Rattle.parts.proofs.Heads.{headOf}
 use Rattle.parts.proofs.Pieces.{flat, length-flat, end-flat, head-flat}
 
 -- the pieces of a list with an application `. f a` in it

@@ -11,7 +11,8 @@ use Rattle.calculus.specs.Term.{Term, text, size}
 use Rattle.slices.specs.Part.{part}
 use Rattle.parts.specs.Skip.{endAt}
 use Rattle.parts.proofs.Skip.{end-text}
-use Rattle.parts.proofs.Heads.{headOf, head-at}
+use Rattle.calculus.proofs.Heads.{headOf}
+use Rattle.parts.proofs.Heads.{head-at}
 
 -- the pieces one behind the other, and the sum of their lengths
 abbrev pub flat : List (List ℕ) → List ℕ

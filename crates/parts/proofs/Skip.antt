@@ -11,6 +11,7 @@ use lib.ListN.{length, getD, drop, length-drop, drop-of-length-le}
 use lib.Seq.{drop-cons, drop-drop, drop-at}
 use Rattle.calculus.specs.Letter.{Letter, letterOf}
 use Rattle.calculus.specs.Term.{Term, text, size}
+use Rattle.calculus.proofs.PrefixCode.{letterOf-byte}
 use Rattle.reading.specs.Arity.{arityOfLetter, arityOf}
 use Rattle.parts.specs.Skip.{owedBehind, skip, endAt}
 
@@ -34,6 +35,7 @@ owed-add (some Letter.A) j k = omega arith
 owed-add (some Letter.I) j k = refl
 owed-add (some Letter.B) j k = omega arith
 owed-add (some Letter.stop) j k = omega arith
+owed-add (some (Letter.bell b)) j k = refl
 
 -- j terms and then k terms
 skip-add : (s : List ℕ) (j k : ℕ) → skip (j + k) s ≡ skip j s + skip k (drop (skip j s) s)
@@ -80,6 +82,7 @@ none-taken (some Letter.A) n m = absurd (m refl)
 none-taken (some Letter.I) n m = refl
 none-taken (some Letter.B) n m = absurd (m refl)
 none-taken (some Letter.stop) n m = absurd (m refl)
+none-taken (some (Letter.bell b)) n m = refl
 
 module _ (s : List ℕ) (at parts : ℕ) (h : at < length s) (p : parts ≡ arityOf (getD s at 0)) where
   -- a letter that takes one term ends where that term ends
@@ -128,6 +131,7 @@ sized (Term.A s t) k z = omega (arith, sized-both s t (sized s) (sized t) k z)
 sized Term.I k z = omega arith
 sized (Term.B u s) k z = omega (arith, sized-both u s (sized u) (sized s) k z)
 sized (Term.app t u) k z = omega (arith, sized-both t u (sized t) (sized u) k z)
+sized (Term.bell b) k z = omega (arith, ap (λ (o : Option Letter). skip (owedBehind o k) z) (letterOf-byte (Letter.bell b)))
 
 -- the part that begins with the text of t ends behind it
 pub end-text : (s x : List ℕ) (t : Term) (z : List ℕ) (at : ℕ) → s ≡ x ++ (text t ++ z) → at ≡ length x → endAt s at ≡ at + size t

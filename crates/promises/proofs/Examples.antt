@@ -1,4 +1,4 @@
--- The operations' definitions answer each of the twelve rows as the row says, by one computation. Assumes nothing.
+-- The operations' definitions answer each row as it says, by one computation. Assumes nothing.
 use mathlib.Core.Path.{_≡_, refl}
 use mathlib.Core.List.{map}
 use Rattle.calculus.specs.Letter.{letterOf}

@@ -1,5 +1,5 @@
--- The twelve proved examples (REQUIREMENTS, Examples), as rows of one table over the operations' definitions. proofs/Examples.antt has the proof
--- that covers it. Every expected reply was written by hand from the paper; the rules of examples 1 and 3 to 8, which it does not give, were
+-- The proved examples (REQUIREMENTS, Examples), twelve of the base and nine with bells, as rows of one table over the operations' definitions.
+-- proofs/Examples.antt has the proof that covers it. Every expected reply was written by hand from the paper; the rules of examples 1 and 3 to 8, which it does not give, were
 -- worked out by hand from figure 1.
 use Prim.Native.Nat.{ℕ, _-_}
 use Prim.Native.String.{String}
@@ -56,6 +56,15 @@ rows =
     Row.row (Call.read "HJ") (Answer.refused 6 2) ∷
     Row.row (Call.check "*a1\tJ\ta\tJ\t-\t-\n1\tI\t1\tI\t-\t-\n1\tAIJ\t>aa\tA\t2\t1\n") (Answer.accepted 3) ∷
     Row.row (Call.check "*a1\tJ\ta\tJ\t-\t-\n1\tI\t1\tI\t-\t-\n1\tAIJ\t>aa\tA\t1\t2\n") (Answer.refused 18 3) ∷
+    runs ".1J" ample-fuel ample-area Outcome.finished 1 (12 ∷ []) "H1J" ∷
+    runs ".BJI1" ample-fuel ample-area Outcome.finished 1 (13 ∷ []) "1" ∷
+    runs ".B11J" ample-fuel ample-area Outcome.finished 1 (6 ∷ []) "1" ∷
+    runs ".AITE" ample-fuel ample-area Outcome.finished 2 (4 ∷ 13 ∷ []) "T" ∷
+    Row.row (Call.read "0") (Answer.size 1) ∷
+    Row.row (Call.read "J1") (Answer.refused 7 1) ∷
+    Row.row (Call.check "1\t1\tb\tK\t-\t-\n") (Answer.accepted 1) ∷
+    Row.row (Call.check "1\t1\ta\tK\t-\t-\n") (Answer.refused 18 1) ∷
+    Row.row (Call.check "1\t1\tb\tK\t1\t-\n") (Answer.refused 17 1) ∷
     []
 
 -- an area of that size with the term at its start

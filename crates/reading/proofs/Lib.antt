@@ -1,3 +1,4 @@
+pub mod BellBytes
 pub mod Scan
 pub mod Whole
 pub mod Numbers

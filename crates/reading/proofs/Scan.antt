@@ -5,13 +5,16 @@ use native.Mathlib.Nat.{add-zero}
 use native.Mathlib.Numerals.{add-one, add-two}
 use native.Mathlib.Omega.{arith}
 use mathlib.Core.Path.{_≡_, refl, sym, _∙_, ap}
-use mathlib.Core.Bool.{Bool}
+use mathlib.Core.Bool.{Bool, true, false, false≢true}
 use mathlib.Core.List.{List, [], _∷_}
 use mathlib.Core.Option.{Option, none, some}
 use borrow.Author.Tests.{ne-eqb}
 use lib.ListN.{length, getD, drop, drop-of-length-le}
 use lib.Seq.{drop-cons}
+use Rattle.calculus.specs.Bell.{isBell}
 use Rattle.calculus.specs.Letter.{Letter, byte, owed, alphabet, chosen, find, letterOf}
+use Rattle.calculus.proofs.Bells.{bell-letter, letter-bell}
+use Rattle.calculus.proofs.PrefixCode.{letterOf-byte}
 use Rattle.reading.specs.Reply.{Reply}
 use Rattle.reading.specs.Reading.{atLetter, readingFrom, readingOf}
 use Rattle.reading.specs.Arity.{arityOfLetter, arityOf}
@@ -24,6 +27,7 @@ owed-sum Letter.A k = sym (add-two k)
 owed-sum Letter.I k = sym (add-zero k)
 owed-sum Letter.B k = sym (add-two k)
 owed-sum Letter.stop k = sym (add-two k)
+owed-sum (Letter.bell b) k = sym (add-zero k)
 
 few : (l : Letter) → owed l 0 < 3
 few Letter.J = omega arith
@@ -33,6 +37,7 @@ few Letter.A = omega arith
 few Letter.I = omega arith
 few Letter.B = omega arith
 few Letter.stop = omega arith
+few (Letter.bell b) = omega arith
 
 -- the byte at a place, where a term is owed
 at-byte :
@@ -93,17 +98,12 @@ not-yet-whole (suc k) at s h owes = rw (drop-of-length-le s h)
 
 -- the count of a letter's byte
 pub arity-byte : (l : Letter) (b : ℕ) → b ≡ byte l → owed l 0 ≡ arityOf b
-unfolding arityOf letterOf
-arity-byte l b e = sym (ap (λ (n : ℕ). arityOfLetter (find n alphabet)) e ∙ known l)
-  where
-    known : (l : Letter) → arityOfLetter (find (byte l) alphabet) ≡ owed l 0
-    known Letter.J = refl
-    known Letter.R = refl
-    known Letter.H = refl
-    known Letter.A = refl
-    known Letter.I = refl
-    known Letter.B = refl
-    known Letter.stop = refl
+unfolding arityOf
+arity-byte l b e = sym (ap arityOf e ∙ ap arityOfLetter (letterOf-byte l))
+
+-- the count of a bell's letter
+pub arity-bell : (b : ℕ) → isBell b ≡ true → 0 ≡ arityOf b
+arity-bell b e = let (k, same) = letter-bell b e in arity-byte (Letter.bell k) b same
 
 -- a byte that is none of the letters' has the count 3
 pub arity-none : (b : ℕ) → ((l : Letter) → b ≡ byte l → ⊥) → 3 ≡ arityOf b
@@ -128,14 +128,16 @@ pub start : (s : List ℕ) → readingFrom 1 0 (drop 0 s) ≡ readingOf s
 unfolding readingOf
 start s = refl
 
--- a byte that is none of the seven, letter by letter
+-- a byte that is no bell's and none of the others, letter by letter
 pub other :
     (b : ℕ) →
-    (b ≡ 74 → ⊥) → (b ≡ 73 → ⊥) → (b ≡ 82 → ⊥) → (b ≡ 72 → ⊥) → (b ≡ 65 → ⊥) → (b ≡ 66 → ⊥) → (b ≡ 46 → ⊥) → (l : Letter) → b ≡ byte l → ⊥
-other b j i r h a p s Letter.J e = j e
-other b j i r h a p s Letter.R e = r e
-other b j i r h a p s Letter.H e = h e
-other b j i r h a p s Letter.A e = a e
-other b j i r h a p s Letter.I e = i e
-other b j i r h a p s Letter.B e = p e
-other b j i r h a p s Letter.stop e = s e
+    (b ≡ 74 → ⊥) → (b ≡ 73 → ⊥) → (b ≡ 82 → ⊥) → (b ≡ 72 → ⊥) → (b ≡ 65 → ⊥) → (b ≡ 66 → ⊥) → (b ≡ 46 → ⊥) → isBell b ≡ false →
+    (l : Letter) → b ≡ byte l → ⊥
+other b j i r h a p s n Letter.J e = j e
+other b j i r h a p s n Letter.R e = r e
+other b j i r h a p s n Letter.H e = h e
+other b j i r h a p s n Letter.A e = a e
+other b j i r h a p s n Letter.I e = i e
+other b j i r h a p s n Letter.B e = p e
+other b j i r h a p s n Letter.stop e = s e
+other b j i r h a p s n (Letter.bell k) e = false≢true (sym n ∙ ap isBell e ∙ bell-letter k)

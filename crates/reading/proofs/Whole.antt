@@ -11,6 +11,7 @@ use lib.ListN.{length}
 use Rattle.calculus.specs.Letter.{Letter, byte, letterOf, owed}
 use Rattle.calculus.specs.Term.{Term, text, size}
 use Rattle.calculus.specs.Parse.{termOf}
+use Rattle.calculus.proofs.Heads.{headOf}
 use Rattle.calculus.proofs.PrefixCode.{letterOf-byte, byte-letterOf, text-termOf, length-text}
 use Rattle.reading.specs.Reply.{Reply}
 use Rattle.reading.specs.Reading.{atLetter, readingFrom, readingOf, Lettered, Unwhole, ReadsAs}
@@ -43,6 +44,10 @@ passed (Term.A s t) k place rest = passed-both s t (passed s) (passed t) k place
 passed Term.I k place rest = let one : suc place ≡ place + 1 = omega arith in ap (λ (n : ℕ). readingFrom k n rest) one
 passed (Term.B u s) k place rest = passed-both u s (passed u) (passed s) k place rest
 passed (Term.app t u) k place rest = passed-both t u (passed t) (passed u) k place rest
+passed (Term.bell b) k place rest =
+    let one : suc place ≡ place + 1 = omega arith in
+    ap (λ (o : Option Letter). atLetter o place (λ l. readingFrom (owed l k) (suc place) rest)) (letterOf-byte (Letter.bell b))
+    ∙ ap (λ (n : ℕ). readingFrom k n rest) one
 
 -- a term's text is answered with its size
 pub term-whole : (t : Term) → readingOf (text t) ≡ Reply.answered (size t)
@@ -76,6 +81,7 @@ taken Letter.A k ts = taken-two Term.A (λ t u. refl) ts
 taken Letter.I k ts = Texts.and-text Term.I ts
 taken Letter.B k ts = taken-two Term.B (λ t u. refl) ts
 taken Letter.stop k ts = taken-two Term.app (λ t u. refl) ts
+taken (Letter.bell b) k ts = Texts.and-text (Term.bell b) ts
 
 -- an answer says that the bytes are the texts of the terms owed, and counts them
 answered-texts :
@@ -121,23 +127,12 @@ refused-none bytes number place e = go (termOf bytes) refl
 
 -- ---- the relation
 
--- the first letter of t, and the texts of the terms that it takes
-headOf : Term → Letter
-headOf Term.J = Letter.J
-headOf (Term.R t) = Letter.R
-headOf (Term.H r t) = Letter.H
-headOf (Term.A s t) = Letter.A
-headOf Term.I = Letter.I
-headOf (Term.B u s) = Letter.B
-headOf (Term.app t u) = Letter.stop
-
 -- the texts of k terms do not stand at the front
 abbrev Short : ℕ → List ℕ → Type 0
 Short k s = (x y : List ℕ) → s ≡ x ++ y → Texts k x → ⊥
 
 -- the text of a term and k further texts: its first letter, and as many texts as are owed behind it
 opened : {k : ℕ} {s : List ℕ} (t : Term) → Texts k s → (z : List ℕ) × (text t ++ s ≡ byte (headOf t) ∷ z) × Texts (owed (headOf t) k) z
-unfolding headOf
 opened {s = s} Term.J ts = (s, refl, ts)
 opened {s = s} (Term.R t) ts = (text t ++ s, refl, Texts.and-text t ts)
 opened {s = s} (Term.H r t) ts = (text r ++ (text t ++ s), ap (λ (l : List ℕ). byte Letter.H ∷ l) (append-assoc (text r) (text t) s), Texts.and-text r (Texts.and-text t ts))
@@ -145,6 +140,7 @@ opened {s = s} (Term.A e t) ts = (text e ++ (text t ++ s), ap (λ (l : List ℕ)
 opened {s = s} Term.I ts = (s, refl, ts)
 opened {s = s} (Term.B u e) ts = (text u ++ (text e ++ s), ap (λ (l : List ℕ). byte Letter.B ∷ l) (append-assoc (text u) (text e) s), Texts.and-text u (Texts.and-text e ts))
 opened {s = s} (Term.app t u) ts = (text t ++ (text u ++ s), ap (λ (l : List ℕ). byte Letter.stop ∷ l) (append-assoc (text t) (text u) s), Texts.and-text t (Texts.and-text u ts))
+opened {s = s} (Term.bell b) ts = (s, refl, ts)
 
 -- no bytes begin with a text
 short-nil : (k : ℕ) → Short (suc k) []

@@ -1,6 +1,7 @@
 // Reading: whether bytes are the text of one term.
 use calculus::letters;
 ghost use mathlib.Core.Path.{_≡_};
+ghost use Rattle.calculus.specs.Bell.{isBell};
 ghost use Rattle.reading.specs.Reply.{numberIn, placeIn};
 ghost use Rattle.reading.specs.Reading.{readingOf};
 ghost use Rattle.reading.specs.Answer.{answerOf};
@@ -94,5 +95,21 @@ pub fn arity(b: u8) -> usize
     if b == letters::STOP {
         return 2;
     }
+    if is_bell(b) {
+        return 0;
+    }
     NO_LETTER
+}
+
+// Whether the byte is the letter of a bell.
+pub fn is_bell(b: u8) -> bool
+    ensures { λ r. ⌜ r ≡ isBell b ⌝ }
+{
+    if b < letters::FIRST_DIGIT {
+        return false;
+    }
+    if b <= letters::LAST_DIGIT {
+        return true;
+    }
+    b == letters::ELEVEN || b == letters::TWELVE
 }

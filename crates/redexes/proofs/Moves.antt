@@ -12,7 +12,7 @@ use Rattle.calculus.specs.Term.{Term, text, size}
 use Rattle.calculus.specs.Order.{Next, next, within}
 use Rattle.calculus.proofs.PrefixCode.{length-text}
 use Rattle.parts.specs.Skip.{endAt}
-use Rattle.parts.proofs.Heads.{is-app, is-pair}
+use Rattle.calculus.proofs.Heads.{is-app, is-pair}
 use Rattle.parts.proofs.Laid.{Laid, function-head, function-end, argument-head}
 use Rattle.redexes.specs.Moves.{Move, Leads}
 use Rattle.redexes.specs.Spot.{Spot}

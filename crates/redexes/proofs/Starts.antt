@@ -5,12 +5,13 @@ use native.Mathlib.Omega.{arith}
 use mathlib.Core.Path.{_≡_, refl, sym, _∙_, ap}
 use mathlib.Core.Bool.{false}
 use mathlib.Core.List.{List, [], _∷_, _++_, append-assoc, append-nil}
+use borrow.Author.Tests.{ne-eqb}
 use lib.Dec.{eqb}
 use lib.ListN.{length-append}
 use Rattle.calculus.specs.Letter.{Letter, byte}
 use Rattle.calculus.specs.Term.{Term, text, size}
 use Rattle.calculus.specs.Order.{Next, next, within, leftmost}
-use Rattle.calculus.proofs.PrefixCode.{length-text}
+use Rattle.calculus.proofs.PrefixCode.{length-text, bell-no-stop}
 use Rattle.slices.proofs.Finding.{Lacks, lacks-append}
 use Rattle.redexes.specs.Spot.{Spot}
 
@@ -125,3 +126,4 @@ start (Term.A s t) = start-two node-A s t (start s) (start t)
 start Term.I = Start.nowhere (refl, tt) refl
 start (Term.B u s) = start-two node-B u s (start u) (start s)
 start (Term.app t u) = start-app t u
+start (Term.bell k) = Start.nowhere (ne-eqb (byte (Letter.bell k)) (byte Letter.stop) (λ e. bell-no-stop k (sym e)), tt) refl

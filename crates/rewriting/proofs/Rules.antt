@@ -1,4 +1,4 @@
--- What the eleven rules make of a text. The redex is `. f a` at p, between a front and a back: the text that comes of it is the front,
+-- What the thirteen rules make of a text. The redex is `. f a` at p, between a front and a back: the text that comes of it is the front,
 -- the text of the rule's right side, and the back. Each rule's text is read off the pieces of the list. Assumes nothing.
 use Prim.Native.Nat.{ℕ, _+_, _-_, _≤_, _<_}
 use native.Mathlib.Omega.{arith}
@@ -12,7 +12,7 @@ use Rattle.calculus.specs.Order.{Next, next}
 use Rattle.calculus.proofs.PrefixCode.{length-text}
 use Rattle.slices.specs.Part.{part}
 use Rattle.parts.specs.Skip.{endAt}
-use Rattle.parts.proofs.Heads.{headOf}
+use Rattle.calculus.proofs.Heads.{headOf}
 use Rattle.parts.proofs.Pieces.{flat, part-flat, end-flat}
 use Rattle.parts.proofs.Laid.{Laid, around, function-head, function-end, argument-head, laid-length}
 use Rattle.rewriting.specs.declared.Rewrite.{Rewrite}
@@ -37,10 +37,10 @@ pub record Fires (f a : Term) (front back s : List ℕ) (w : Rewrite) : Type 0 w
   pub grows : size value ≤ size (Term.app f a) + (w .again .to - w .again .from)
   pub exact : 0 < w .again .to - w .again .from → size value ≡ size (Term.app f a) + (w .again .to - w .again .from)
 
--- ---- rules 1 to 5
+-- ---- rules 1 to 5 and 12
 
 module _ {s front back : List ℕ} {p : ℕ} where
-  -- rules 1 to 3
+  -- rules 1 to 3 and 12
   frozen-fires :
       (n : ℕ) {f a : Term} → next (Term.app f a) ≡ Next.step n (Term.H f a) →
       Laid s front f a back p → Fires f a front back s (frozen n p (p + 1))
@@ -110,7 +110,7 @@ module _ {s front back : List ℕ} {p : ℕ} where
         exact = λ h. omega arith;
       }
 
--- ---- rules 6 to 11
+-- ---- rules 6 to 11 and 13
 
 -- the pieces of a list with a pair on an argument that is a letter with two lists behind it
 abbrev onPieces : (front u s : List ℕ) (b : ℕ) (r t back : List ℕ) → List (List ℕ)
@@ -226,18 +226,19 @@ module _ {x front : List ℕ} {u s : Term} {back : List ℕ} {p mid end : ℕ} w
         exact = λ h. omega arith;
       }
 
-  -- rule 10
-  none-fires :
-      OnPieces x front (text u) (text s) (byte Letter.I) [] [] back p mid end →
-      Fires (Term.B u s) Term.I front back x (picked 10 p nothing end)
-  none-fires on =
+  -- rules 10 and 13: an argument of one letter is left
+  left-fires :
+      (n : ℕ) (b : ℕ) (a : Term) → text a ≡ b ∷ [] → next (Term.app (Term.B u s) a) ≡ Next.step n a →
+      OnPieces x front (text u) (text s) b [] [] back p mid end →
+      Fires (Term.B u s) a front back x (picked n p nothing end)
+  left-fires n b a e step on =
       record {
-        value = Term.I;
-        step = refl;
+        value = a;
+        step = step;
         spelt =
-            pieced (picked 10 p nothing end) x (front-part on) refl refl refl (argument-part on)
+            pieced (picked n p nothing end) x (front-part on) refl refl refl (argument-part on)
             ∙ ap₂ _++_ (append-nil front)
-            (append-nil (byte Letter.I ∷ (back ++ [])) ∙ ap (λ (l : List ℕ). byte Letter.I ∷ l) (append-nil back));
+            (append-nil (b ∷ (back ++ [])) ∙ ap (λ (l : List ℕ). b ∷ l) (append-nil back) ∙ ap (λ (l : List ℕ). l ++ back) (sym e));
         grows = omega arith;
         exact = λ h. omega arith;
       }
@@ -335,9 +336,11 @@ module _ {x front : List ℕ} {u s : Term} {back : List ℕ} {p : ℕ} where
   pair-fires (Term.R t) laid n = second-fires (on-pieces (byte Letter.R) (text t) [] (simp append-nil) laid)
   pair-fires (Term.H r t) laid n = let on = on-pieces (byte Letter.H) (text r) (text t) refl laid in both-fires (third-of r on) on
   pair-fires (Term.A r t) laid n = let on = on-pieces (byte Letter.A) (text r) (text t) refl laid in closed-fires (third-of r on) on
-  pair-fires Term.I laid n = none-fires (on-pieces (byte Letter.I) [] [] refl laid)
+  pair-fires Term.I laid n = left-fires 10 (byte Letter.I) Term.I refl refl (on-pieces (byte Letter.I) [] [] refl laid)
   pair-fires (Term.B r t) laid n = let on = on-pieces (byte Letter.B) (text r) (text t) refl laid in paired-fires (third-of r on) on
   pair-fires (Term.app f a) laid n = absurd (n refl)
+  pair-fires (Term.bell k) laid n =
+      left-fires 13 (byte (Letter.bell k)) (Term.bell k) refl refl (on-pieces (byte (Letter.bell k)) [] [] refl laid)
 
   -- the pair's case is that of the first letter of its argument
   pair-letter :
@@ -365,6 +368,7 @@ module _ {x front back : List ℕ} {p : ℕ} where
   function-fires Term.I a laid n m = identity-fires laid
   function-fires (Term.B u s) a laid n m = subst (Fires (Term.B u s) a front back x) (pair-letter laid) (pair-fires a laid (m refl))
   function-fires (Term.app f b) a laid n m = absurd (n refl)
+  function-fires (Term.bell k) a laid n m = frozen-fires 12 refl laid
 
   pub fires :
       (f a : Term) → Laid x front f a back p →

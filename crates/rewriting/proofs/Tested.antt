@@ -3,14 +3,17 @@
 use Prim.Native.Nat.{ℕ, _+_, _≤_}
 use native.Mathlib.Omega.{arith}
 use mathlib.Core.Path.{_≡_, refl, sym, _∙_, ap}
+use mathlib.Core.Bool.{true, false, false≢true}
 use mathlib.Core.List.{List}
 use mathlib.Core.Option.{Option, none, some}
 use lib.ListN.{length, getD, List·getD-eq-default}
+use Rattle.calculus.specs.Bell.{isBell}
 use Rattle.calculus.specs.Letter.{Letter, byte, letterOf}
+use Rattle.calculus.proofs.Bells.{bell-letter, letter-bell}
 use Rattle.calculus.proofs.PrefixCode.{letterOf-byte, byte-letterOf}
 use Rattle.parts.specs.Skip.{endAt}
 use Rattle.rewriting.specs.declared.Rewrite.{Rewrite}
-use Rattle.rewriting.specs.Rewriting.{between, entered, unchanged, onPair, pairOf, onFunction, rewriteOf}
+use Rattle.rewriting.specs.Rewriting.{between, nothing, entered, frozen, picked, unchanged, onPair, pairOf, onFunction, rewriteOf}
 
 -- the case of a letter is that of its byte
 pub by-letter : (f : Option Letter → Rewrite) (b : ℕ) (l : Letter) → b ≡ byte l → f (some l) ≡ f (letterOf b)
@@ -24,6 +27,7 @@ pub record Other (b : ℕ) : Type 0 where
   pub no-A : b ≡ byte Letter.A → ⊥
   pub no-I : b ≡ byte Letter.I → ⊥
   pub no-B : b ≡ byte Letter.B → ⊥
+  pub no-bell : isBell b ≡ false
 
 by-others : (f : Option Letter → Rewrite) (w : Rewrite) (b : ℕ) → Other b → w ≡ f none → w ≡ f (some Letter.stop) → w ≡ f (letterOf b)
 by-others f w b other o q = go (letterOf b) refl
@@ -37,6 +41,8 @@ by-others f w b other o q = go (letterOf b) refl
     go (some Letter.I) e = absurd (other .no-I (sym (byte-letterOf b Letter.I e)))
     go (some Letter.B) e = absurd (other .no-B (sym (byte-letterOf b Letter.B e)))
     go (some Letter.stop) e = q
+    go (some (Letter.bell k)) e =
+        absurd (false≢true (sym (other .no-bell) ∙ ap isBell (sym (byte-letterOf b (Letter.bell k) e)) ∙ bell-letter k))
 
 module _ (s : List ℕ) (p mid end : ℕ) (b : ℕ) (q : b ≡ getD s end 0) where
   same-pair : onPair (letterOf b) s p mid end ≡ onPair (letterOf (getD s end 0)) s p mid end
@@ -46,6 +52,9 @@ module _ (s : List ℕ) (p mid end : ℕ) (b : ℕ) (q : b ≡ getD s end 0) whe
   pub pair-letter : (l : Letter) → b ≡ byte l → onPair (some l) s p mid end ≡ onPair (letterOf (getD s end 0)) s p mid end
   pair-letter l n = by-letter (λ (o : Option Letter). onPair o s p mid end) b l n ∙ same-pair
 
+  pub pair-bell : isBell b ≡ true → picked 13 p nothing end ≡ onPair (letterOf (getD s end 0)) s p mid end
+  pair-bell e = let (k, same) = letter-bell b e in pair-letter (Letter.bell k) same
+
   pub pair-others : Other b → unchanged (length s) ≡ onPair (letterOf (getD s end 0)) s p mid end
   pair-others other = by-others (λ (o : Option Letter). onPair o s p mid end) (unchanged (length s)) b other refl refl ∙ same-pair
 
@@ -54,6 +63,9 @@ module _ (s : List ℕ) (p : ℕ) (b : ℕ) (q : b ≡ getD s (p + 1) 0) where
   pub rewrite-letter : (l : Letter) → b ≡ byte l → onFunction (some l) s p ≡ rewriteOf s p
   unfolding rewriteOf
   rewrite-letter l e = by-letter (λ (o : Option Letter). onFunction o s p) (getD s (p + 1) 0) l (sym q ∙ e)
+
+  pub rewrite-bell : isBell b ≡ true → frozen 12 p (p + 1) ≡ rewriteOf s p
+  rewrite-bell e = let (k, same) = letter-bell b e in rewrite-letter (Letter.bell k) same
 
   pub rewrite-others : Other b → unchanged (length s) ≡ rewriteOf s p
   unfolding rewriteOf

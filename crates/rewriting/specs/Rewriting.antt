@@ -21,12 +21,12 @@ nothing = between 0 0
 abbrev pub unchanged : (len : ℕ) → Rewrite
 unchanged len = record { rule = 0; keep = len; letter = 0; first = nothing; second = nothing; again = nothing; rest = len }
 
--- rules 1 to 3: the full stop becomes H
+-- rules 1 to 3 and 12: the full stop becomes H
 abbrev pub frozen : (rule p rest : ℕ) → Rewrite
 frozen rule p rest =
     record { rule = rule; keep = p; letter = byte Letter.H; first = nothing; second = nothing; again = nothing; rest = rest }
 
--- rules 5, 6, 7 and 10: one part, or none, between what is kept and the rest
+-- rules 5, 6, 7, 10 and 13: one part, or none, between what is kept and the rest
 abbrev pub picked : (rule keep : ℕ) (first : Part) (rest : ℕ) → Rewrite
 picked rule keep first rest =
     record { rule = rule; keep = keep; letter = 0; first = first; second = nothing; again = nothing; rest = rest }
@@ -41,7 +41,7 @@ abbrev pub spread : (rule keep letter : ℕ) (pair inner again : Part) → Rewri
 spread rule keep letter pair inner again =
     record { rule = rule; keep = keep; letter = letter; first = pair; second = inner; again = again; rest = inner .to }
 
--- rules 6 to 11, by the first letter of the pair's argument; no rule where that is an application or no letter
+-- rules 6 to 11 and 13, by the first letter of the pair's argument; no rule where that is an application or no letter
 abbrev pub onPair : Option Letter → (s : List ℕ) (p mid end : ℕ) → Rewrite
 onPair none s p mid end = unchanged (length s)
 onPair (some Letter.J) s p mid end = picked 6 p (between (p + 2) mid) (end + 1)
@@ -51,8 +51,9 @@ onPair (some Letter.A) s p mid end = spread 9 p (byte Letter.A) (between p end) 
 onPair (some Letter.I) s p mid end = picked 10 p nothing end
 onPair (some Letter.B) s p mid end = spread 11 p (byte Letter.B) (between p end) (between (end + 1) (endAt s (end + 1))) (between p end)
 onPair (some Letter.stop) s p mid end = unchanged (length s)
+onPair (some (Letter.bell k)) s p mid end = picked 13 p nothing end
 
--- rules 6 to 11, where the ends of the pair's parts are found in s
+-- these rules, where the ends of the pair's parts are found in s
 abbrev pub pairOf : (s : List ℕ) (p : ℕ) → Rewrite
 pairOf s p =
     let mid = endAt s (p + 2) in
@@ -65,7 +66,7 @@ closureOf s p =
     let end = endAt s (p + 1) in
     entered (p + 1) (between end (endAt s end)) (between (p + 2) end)
 
--- rules 1 to 11, by the first letter of the function; no rule where that is an application or no letter
+-- all rules, by the first letter of the function; no rule where that is an application or no letter
 abbrev pub onFunction : Option Letter → (s : List ℕ) (p : ℕ) → Rewrite
 onFunction none s p = unchanged (length s)
 onFunction (some Letter.J) s p = frozen 1 p (p + 1)
@@ -75,6 +76,7 @@ onFunction (some Letter.A) s p = closureOf s p
 onFunction (some Letter.I) s p = picked 5 p nothing (p + 2)
 onFunction (some Letter.B) s p = pairOf s p
 onFunction (some Letter.stop) s p = unchanged (length s)
+onFunction (some (Letter.bell k)) s p = frozen 12 p (p + 1)
 
 -- what the rule that applies at p makes of s; no rule past the end of s
 unfoldable pub rewriteOf : (s : List ℕ) (p : ℕ) → Rewrite

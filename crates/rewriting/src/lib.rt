@@ -1,6 +1,7 @@
 // The rewriting: the right side of a rule in place of its left side, in the text of a term.
 use calculus::letters;
 use parts::part_end;
+use reading::is_bell;
 use slices::byte_at;
 ghost use mathlib.Core.Path.{_≡_};
 ghost use Prim.Native.Nat.{_+_, _-_, _≤_, _<_};
@@ -49,7 +50,7 @@ fn unchanged(len: usize) -> Rewrite
     }
 }
 
-// Rules 1 to 3: the full stop at `p` becomes `H`; the function begins at `rest`.
+// Rules 1 to 3 and 12: the full stop at `p` becomes `H`; the function begins at `rest`.
 fn frozen(rule: u8, p: usize, rest: usize) -> Rewrite
     ensures { λ r. ⌜ r ≡ rewriting.frozen rule p rest ⌝ }
 {
@@ -64,7 +65,7 @@ fn frozen(rule: u8, p: usize, rest: usize) -> Rewrite
     }
 }
 
-// Rules 5, 6, 7 and 10: one part, or none, between what is kept and the rest.
+// Rules 5, 6, 7, 10 and 13: one part, or none, between what is kept and the rest.
 fn picked(rule: u8, keep: usize, first: Part, rest: usize) -> Rewrite
     ensures { λ r. ⌜ r ≡ rewriting.picked rule keep first rest ⌝ }
 {
@@ -109,7 +110,7 @@ fn spread(rule: u8, keep: usize, letter: u8, pair: Part, inner: Part, again: Par
     }
 }
 
-// Rules 6 to 11: the parts of the pair at p + 1 end at `mid` and at `end`, where its argument begins.
+// Rules 6 to 11 and 13: the parts of the pair at p + 1 end at `mid` and at `end`, where its argument begins.
 fn pair_at(s: &[u8], p: usize, mid: usize, end: usize) -> Rewrite
     requires { ⌜ (p < length (now s)) × (end ≤ length (now s) + 1) ⌝ }
     ensures { λ r. ⌜ r ≡ rewriting.onPair (letterOf (getD (now (s .entry)) end 0)) (now (s .entry)) p mid end ⌝ }
@@ -132,6 +133,9 @@ fn pair_at(s: &[u8], p: usize, mid: usize, end: usize) -> Rewrite
     }
     if head == letters::I {
         return picked(10, p, NOTHING, end);
+    }
+    if is_bell(head) {
+        return picked(13, p, NOTHING, end);
     }
     let pair = Part { from: p, to: end };
     let third = part_end(s, inner);
@@ -191,6 +195,9 @@ pub fn rewrite_at(s: &[u8], p: usize) -> Rewrite
         let mid = part_end(s, p + 2);
         let end = part_end(s, mid);
         return pair_at(s, p, mid, end);
+    }
+    if is_bell(head) {
+        return frozen(12, p, function);
     }
     unchanged(s.len())
 }

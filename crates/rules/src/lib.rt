@@ -7,7 +7,7 @@ use fields::texts::is_join;
 ghost use mathlib.Core.Path.{_≡_};
 ghost use Rattle.derivation_files.specs.Line.{names, findName, nameOf};
 ghost use Rattle.fields.specs.Texts.{textAt};
-ghost use Rattle.rules.specs.Rules.{ruleOf, isKnown, countOf, buildsText};
+ghost use Rattle.rules.specs.Rules.{ruleOf, isKnown, countOf, isBellText, buildsText};
 
 // The rules, by the letters that name them.
 pub enum Rule {
@@ -19,6 +19,7 @@ pub enum Rule {
     I,
     B,
     S,
+    K,
     Unknown,
 }
 
@@ -61,6 +62,9 @@ fn rule_named(b: u8) -> Rule
     if b == names::S {
         return Rule::S;
     }
+    if b == names::K {
+        return Rule::K;
+    }
     Rule::Unknown
 }
 
@@ -77,6 +81,7 @@ pub fn is_known(rule: Rule) -> bool
         Rule::I => true,
         Rule::B => true,
         Rule::S => true,
+        Rule::K => true,
         Rule::Unknown => false,
     }
 }
@@ -94,11 +99,12 @@ pub fn premise_count(rule: Rule) -> usize
         Rule::I => 0,
         Rule::B => 2,
         Rule::S => 2,
+        Rule::K => 0,
         Rule::Unknown => 0,
     }
 }
 
-// Whether the term is the one that the rule builds of the premises' terms.
+// Whether the term is one that the rule builds of the premises' terms.
 pub fn builds(file: &[u8], rule: Rule, term: Span, first: Span, second: Span) -> bool
     ensures { λ r. ⌜ r ≡ buildsText rule (textAt term (now (file .entry))) (textAt first (now (file .entry)))
         (textAt second (now (file .entry))) ⌝ }
@@ -113,6 +119,18 @@ pub fn builds(file: &[u8], rule: Rule, term: Span, first: Span, second: Span) ->
         Rule::I => is_join(file, term, letters::I, nothing, nothing),
         Rule::B => is_join(file, term, letters::B, first, second),
         Rule::S => is_join(file, term, letters::STOP, first, second),
+        Rule::K => is_bell_text(file, term),
         Rule::Unknown => false,
     }
+}
+
+// Whether a text is that of a bell.
+fn is_bell_text(file: &[u8], text: Span) -> bool
+    ensures { λ r. ⌜ r ≡ isBellText (textAt text (now (file .entry))) ⌝ }
+{
+    let bytes = bytes_of(file, text);
+    if bytes.len() == 1 {
+        return reading::is_bell(bytes[0]);
+    }
+    false
 }

@@ -5,20 +5,23 @@ use crate::timing::shortest;
 use engine::Linked;
 use harness::check_tests::{dear, doubling, lines_of};
 use harness::damage::split;
-use harness::derivations::{file_of_all, some, Derivation, Layout};
+use harness::derivations::{file_of_all, some, some_without_bells, Derivation, Layout};
 use harness::random::Random;
 use harness::reply::{pack, ACCEPTED};
 use harness::subject::Controller;
 
 const LAYOUT: Layout = Layout { shared: true, second_first: false };
 
+/// Makes so many derivations.
+type Make = fn(&mut Random, usize) -> Vec<Derivation>;
+
 /// Generated derivations, one behind the other: nearly 64,000 bytes in at most 1,024 lines.
-fn many_lines() -> Vec<u8> {
+fn many_lines(make: Make) -> Vec<u8> {
     let mut random = Random::new(71);
     let mut kept: Vec<Derivation> = vec![];
     let mut file = vec![];
     while file.len() < 60_000 {
-        kept.extend(some(&mut random, 1));
+        kept.extend(make(&mut random, 1));
         let longer = file_of_all(&kept, LAYOUT);
         // Long lines only, so that the limit on lines is not met before that on bytes.
         if longer.len() <= 64_000 && longer.len() > 64 * lines_of(&longer) {
@@ -60,9 +63,10 @@ pub fn table() -> Table {
         "Checking: milliseconds a file, and megabytes a second",
         &["derivation file", "bytes", "lines", "engine, ms", "Rust, ms", "engine, MB/s", "Rust, MB/s"],
         vec![
-            row("generated derivations", &many_lines()),
+            row("generated derivations", &many_lines(some_without_bells)),
             row("terms that double", &large_terms()),
             row("short lines that cite two long ones", &dear()),
+            row("generated derivations with bells", &many_lines(some)),
         ],
     )
 }

@@ -20,8 +20,9 @@ use reducing::Timed;
 fn everything(picture: Option<String>) {
     let programs: Vec<Timed> = terms::programs().iter().map(reducing::time).collect();
     let nested: Vec<Timed> = terms::nested().iter().map(reducing::time).collect();
+    let bells: Vec<Timed> = terms::bells().iter().map(reducing::time).collect();
     let tables = [
-        reducing::table(&programs, &nested),
+        reducing::table(&programs, &nested, &bells),
         growth::table(&nested),
         checking::table(),
         stack::table(),

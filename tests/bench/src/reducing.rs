@@ -103,7 +103,7 @@ fn row(timed: &Timed) -> Vec<String> {
     ]
 }
 
-pub fn table(programs: &[Timed], nested: &[Timed]) -> Table {
+pub fn table(programs: &[Timed], nested: &[Timed], bells: &[Timed]) -> Table {
     let heads = [
         "term",
         "letters",
@@ -120,6 +120,6 @@ pub fn table(programs: &[Timed], nested: &[Timed]) -> Table {
     Table::new(
         "Nanoseconds a step: whole runs in an area of 16,384 bytes, and one call of stepping",
         &heads,
-        programs.iter().chain(large).map(row).collect(),
+        programs.iter().chain(large).chain(bells).map(row).collect(),
     )
 }

@@ -3,7 +3,7 @@
 use crate::table::Table;
 use engine::Linked;
 use harness::check_tests::{dear, doubling};
-use harness::deep::deep_terms;
+use harness::deep::{deep_bells, deep_terms};
 use harness::memory::Pages;
 use harness::subject::Controller;
 use second::comparing::Lent;
@@ -110,9 +110,12 @@ fn file_row(name: &str, file: Vec<u8>) -> Vec<String> {
 }
 
 pub fn table() -> Table {
-    let mut rows: Vec<Vec<String>> = deep_terms().into_iter().map(|(name, text)| term_row(name, text)).collect();
+    let rows_of =
+        |terms: Vec<(&str, Vec<u8>)>| terms.into_iter().map(|(name, text)| term_row(name, text)).collect();
+    let mut rows: Vec<Vec<String>> = rows_of(deep_terms());
     rows.push(file_row("file: terms that double", doubling(14)));
     rows.push(file_row("file: short lines that cite two long ones", dear()));
+    rows.extend::<Vec<_>>(rows_of(deep_bells()));
     Table::new(
         "Bytes of stack that a call of the engine uses",
         &["term or file", "bytes", "reading", "stepping", "finishing or checking", "comparing or matching"],

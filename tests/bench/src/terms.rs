@@ -1,6 +1,6 @@
 //! The terms that are timed.
 
-use harness::terms::{index, joined, repeated, twice_nested};
+use harness::terms::{index, joined, repeated, twice_nested, BELLS};
 
 pub const AREA: usize = 16_384;
 
@@ -50,6 +50,28 @@ pub fn programs() -> Vec<Case> {
         case("288 pairs under 12 places", long_chain()),
         case("60 changes, nested", nested_changes(60)),
         Case { name: ".AIHJJAIHJJ".to_string(), text: b".AIHJJAIHJJ".to_vec(), fuel: 100_000 },
+    ]
+}
+
+/// 288 pairs, 24 rows of twelve bells, under a substitution that changes none of them.
+fn rows_of_bells() -> Vec<u8> {
+    joined(&[b".", &change(5), &chain((0..288).map(|place| vec![BELLS[place * 7 % 12]]))])
+}
+
+/// 288 pairs of indices under a row of twelve bells, which takes their places.
+fn bells_by_index() -> Vec<u8> {
+    let row = chain(BELLS.iter().map(|&bell| vec![bell]));
+    joined(&[b".", &row, &chain((0..288).map(|place| index(place * 7 % 12)))])
+}
+
+/// Terms with bells, in whose runs rules 12 and 13 are used most.
+pub fn bells() -> Vec<Case> {
+    vec![
+        case("288 bells under 12 places", rows_of_bells()),
+        case("288 pairs under 12 bells", bells_by_index()),
+        case("right, (.1)^k T, 16000", joined(&[&repeated(".1", 8_000), b"T"])),
+        case("left, .^k 1^(k+1), 16000", joined(&[&repeated(".", 8_000), &repeated("1", 8_001)])),
+        case("(.BJI)^k T, 16000", joined(&[&repeated(".BJI", 4_000), b"T"])),
     ]
 }
 

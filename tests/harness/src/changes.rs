@@ -48,8 +48,8 @@ fn small(random: &mut Random) -> Term {
 fn left_sides(random: &mut Random, term: &Term) -> Vec<Term> {
     let mut found = vec![apply(I, term.clone()), apply(b(term.clone(), small(random)), J)];
     match term {
-        H(f, x) if matches!(**f, J | R(_) | H(..)) => found.push(Apply(f.clone(), x.clone())),
-        I => found.push(apply(b(small(random), small(random)), I)),
+        H(f, x) if matches!(**f, J | R(_) | H(..) | K(_)) => found.push(Apply(f.clone(), x.clone())),
+        I | K(_) => found.push(apply(b(small(random), small(random)), term.clone())),
         A(s, t) => found.extend(before_closure(s, t)),
         B(x, y) => found.extend(before_distribution(x, y, b)),
         Apply(x, y) => {

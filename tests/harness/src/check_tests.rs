@@ -95,7 +95,7 @@ fn damaged_bytes(subject: &dyn Controller) -> Outcome {
     let mut random = Random::new(35);
     for file in small_files(35, 150) {
         for _ in 0..60 {
-            agree_check(subject, &damaged(&mut random, &file, b"\t\n-1ab>*JI.A"))?;
+            agree_check(subject, &damaged(&mut random, &file, b"\t\n-1ab>*JI.AKET"))?;
         }
     }
     Ok(())
@@ -118,7 +118,7 @@ fn random_bytes(subject: &dyn Controller) -> Outcome {
         let length = random.below(60);
         let mut file: Vec<u8> = match random.below(2) {
             0 => random.rubbish(length),
-            _ => (0..length).map(|_| *random.pick(b"\t\t\t\n-1a*>JI.s")).collect(),
+            _ => (0..length).map(|_| *random.pick(b"\t\t\t\n-1ab*>JI.sK")).collect(),
         };
         if random.once_in(2) {
             file.push(b'\n');
@@ -133,7 +133,7 @@ fn rules_and_premises(subject: &dyn Controller) -> Outcome {
     for file in small_files(38, 25) {
         let lines = split(&file);
         let line = lines.len() - 1;
-        for rule in b"JRHfAIBs" {
+        for rule in b"JRHfAIBsK" {
             for first in 0..=lines.len() {
                 for second in 0..=lines.len() {
                     let number = |n: usize| if n == 0 { b"-".to_vec() } else { n.to_string().into_bytes() };

@@ -9,7 +9,7 @@ use crate::step_tests::padded;
 use crate::subject::Controller;
 use crate::suite::{Outcome, Suite};
 use crate::table::comparing::{rows, Row};
-use crate::terms::{all_of_size, random_of_size};
+use crate::terms::{random_of_size, texts_of_size, BELLS, LETTERS, TWO_BELLS};
 use second::term::Term;
 
 /// The term in an area of the given size, cut where it is longer.
@@ -45,10 +45,10 @@ fn pair_of(random: &mut Random, first: &[u8], second: &[u8], rooms: [usize; 2], 
     Pair { first: one, first_term: first.len(), second: two, second_term: second.len(), work, fuel }
 }
 
-/// Every pair of terms of up to three letters.
+/// Every pair of terms of up to three letters, bells 1 and T among them.
 fn small_pairs(subject: &dyn Controller) -> Outcome {
     let mut random = Random::new(21);
-    let texts: Vec<Vec<u8>> = (1..=3).flat_map(all_of_size).map(|term| term.text()).collect();
+    let texts: Vec<Vec<u8>> = (1..=3).flat_map(|size| texts_of_size(size, TWO_BELLS)).collect();
     for first in &texts {
         for second in &texts {
             for fuel in [0, 1, 10] {
@@ -116,9 +116,9 @@ fn damaged_pairs(subject: &dyn Controller) -> Outcome {
             random_of_size(&mut random, size).text()
         });
         let place = random.below(2);
-        texts[place] = damaged(&mut random, &texts[place].clone(), b"JRHAIB.");
+        texts[place] = damaged(&mut random, &texts[place].clone(), LETTERS);
         if random.once_in(3) {
-            texts[1 - place] = damaged(&mut random, &texts[1 - place].clone(), b"JRHAIB.");
+            texts[1 - place] = damaged(&mut random, &texts[1 - place].clone(), LETTERS);
         }
         let fuel = *random.pick(&[5, 5, 5, 1_000_001]);
         agree(subject, &pair_of(&mut random, &texts[0], &texts[1], [4, 5], fuel))?;
@@ -146,11 +146,26 @@ fn edges(subject: &dyn Controller) -> Outcome {
     Ok(())
 }
 
+/// Each two of the twelve bells: the same exactly when their letters are, also as results of runs.
+fn bells(subject: &dyn Controller) -> Outcome {
+    for &one in BELLS {
+        for &two in BELLS {
+            let (first, second) = (vec![one], [b".BJI", &[two][..]].concat());
+            let lent = [vec![one], padded(&[two], 5), vec![0; 6]];
+            let pair = Pair { first, first_term: 1, second, second_term: 5, work: vec![b'w'; 6], fuel: 1 };
+            let reply = if one == two { "same" } else { "different" };
+            demand_pair(subject, &pair, &(from_words(reply, 0), lent))?;
+        }
+    }
+    Ok(())
+}
+
 /// Pairs whose replies are written by hand.
 pub fn known(suite: &mut Suite, label: &str, subject: impl Controller) {
     for row in rows() {
         suite.test(&format!("{label} comparing: {}", row.name), || by_hand(&subject, &row));
     }
+    suite.test(&format!("{label} comparing: each two bells"), || bells(&subject));
 }
 
 /// Pairs whose replies the plain reducer predicts.

@@ -1,6 +1,7 @@
 //! Damage to bytes and to the lines and fields of a derivation file.
 
 use crate::random::Random;
+use crate::terms::LETTERS;
 
 /// One random change to the bytes, with letters out of `alphabet` where one is put in.
 pub fn damaged(random: &mut Random, bytes: &[u8], alphabet: &[u8]) -> Vec<u8> {
@@ -53,6 +54,8 @@ const FIELDS: &[&[u8]] = &[
     b"B",
     b"s",
     b"K",
+    b"E",
+    b"T",
     b"a",
     b"b",
     b">aa",
@@ -66,6 +69,8 @@ const FIELDS: &[&[u8]] = &[
     b".II",
     b"BJI",
     b"RJ",
+    b"H1J",
+    b".B1IT",
     b"--",
     b"- ",
     b"\r",
@@ -138,7 +143,7 @@ pub fn with_lines_damaged(file: &[u8]) -> Vec<Vec<u8>> {
 pub fn with_field_damaged(random: &mut Random, file: &[u8], field: usize) -> Vec<u8> {
     let mut lines = split(file);
     let line = random.below(lines.len());
-    let alphabets: [&[u8]; 6] = [b"ab>*1", b"JRHAIB.", b"ab>*1", b"JRHfAIBs", b"-0123456789", b"-0123456789"];
+    let alphabets: [&[u8]; 6] = [b"ab>*1", LETTERS, b"ab>*1", b"JRHfAIBsK", b"-0123456789", b"-0123456789"];
     lines[line][field] = damaged(random, &lines[line][field].clone(), alphabets[field]);
     join(&lines)
 }

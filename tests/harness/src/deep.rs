@@ -47,6 +47,30 @@ pub fn deep_terms() -> Vec<(&'static str, Vec<u8>)> {
     ]
 }
 
+/// Deep terms with bells.
+pub fn deep_bells() -> Vec<(&'static str, Vec<u8>)> {
+    vec![
+        ("R^16383 0", joined(&[&repeated("R", 16_383), b"0"])),
+        (". to the left, 1", joined(&[&repeated(".", 8_191), &repeated("1", 8_192)])),
+        (". to the right, T", joined(&[&repeated(".T", 8_191), b"T"])),
+        ("H to the right, then .EJ", joined(&[&repeated("HE", 8_190), b".EJ"])),
+        ("A to the right, then .BJI1", joined(&[&repeated("AI", 8_189), b".BJI1"])),
+        (".BJI to the right, 9", joined(&[&repeated(".BJI", 4_095), b"9"])),
+        ("R^16379 0 in a pair before T", joined(&[b".B", &repeated("R", 16_379), b"0IT"])),
+        (
+            "bells in 4,000 pairs, the last by its index",
+            joined(&[b".", &repeated("B1", 4_000), b"I", &index(3_999)]),
+        ),
+        (".BII around H of bells", joined(&[&repeated(".BII", 3_000), b"H1T"])),
+        ("a substitution of 288 bells", joined(&[b".BJI", &repeated("B5", 288), b"I"])),
+    ]
+}
+
+/// Every deep term.
+fn all_deep_terms() -> Vec<(&'static str, Vec<u8>)> {
+    [deep_terms(), deep_bells()].concat()
+}
+
 type Predict = fn(&Call, Option<u64>) -> Expected;
 
 fn call(text: &[u8], area: usize) -> Call {
@@ -84,7 +108,7 @@ pub fn reductions(
     fuel: u64,
     predict: Predict,
 ) {
-    for (name, text) in deep_terms() {
+    for (name, text) in all_deep_terms() {
         suite.test(&format!("{label} deep step: {name}"), || {
             one_step(subject, &text, text.len())?;
             one_step(subject, &text, 16_384)
@@ -121,7 +145,7 @@ fn compared(subject: impl Controller + Sync, text: &[u8]) -> Outcome {
 
 /// Comparing of deep terms, each with itself.
 fn comparisons(suite: &mut Suite, label: &str, subject: impl Controller + Sync + Copy) {
-    for (name, text) in deep_terms() {
+    for (name, text) in all_deep_terms() {
         suite.test(&format!("{label} deep comparing: {name}"), || compared(subject, &text));
     }
 }

@@ -1,15 +1,18 @@
 //! Typed terms made together with their derivations, and the files that hold them.
 
 use crate::random::Random;
+use second::bell::Bell;
 use second::order::next_place;
 use second::term::{a, apply, b, h, r, Term};
-use second::types::{arrow, write_context, write_type, Context, Simple, Type};
+use second::types::{arrow, write_context, write_type, Context, Simple, Type, BELL};
 use std::collections::HashMap;
 
 /// A use of a typing rule; the term is the one that the rules build.
 #[derive(Clone, Debug)]
 pub struct Derivation {
     pub rule: u8,
+    /// The bell of a use of rule K, which alone has one.
+    pub bell: Option<Bell>,
     pub context: Context,
     pub kind: Type,
     pub premises: Vec<Derivation>,
@@ -25,13 +28,19 @@ impl Derivation {
             b'A' => a(part(0), part(1)),
             b'I' => Term::I,
             b'B' => b(part(0), part(1)),
+            b'K' => Term::K(self.bell.expect("rule K has a bell")),
             _ => apply(part(0), part(1)),
         }
     }
 }
 
 fn use_of(rule: u8, context: &[Simple], kind: Type, premises: Vec<Derivation>) -> Derivation {
-    Derivation { rule, context: context.to_vec(), kind, premises }
+    Derivation { rule, bell: None, context: context.to_vec(), kind, premises }
+}
+
+/// A use of rule K.
+fn bell_in(context: &[Simple], bell: Bell) -> Derivation {
+    Derivation { bell: Some(bell), ..use_of(b'K', context, Type::Simple(BELL), vec![]) }
 }
 
 /// The context `*` U D.
@@ -43,11 +52,13 @@ fn extended(u: &Simple, d: &[Simple]) -> Context {
 pub struct Maker<'a> {
     pub random: &'a mut Random,
     allowance: usize,
+    /// Whether rule K is used.
+    bells: bool,
 }
 
 impl<'a> Maker<'a> {
-    pub fn new(random: &'a mut Random) -> Self {
-        Maker { random, allowance: 3_000 }
+    pub fn new(random: &'a mut Random, bells: bool) -> Self {
+        Maker { random, allowance: 3_000, bells }
     }
 
     fn atom(&mut self) -> Simple {
@@ -69,6 +80,7 @@ impl<'a> Maker<'a> {
     /// A simple type that often has a term in the context.
     fn likely(&mut self, context: &[Simple]) -> Simple {
         let known = |maker: &mut Self| match context.is_empty() {
+            true if maker.bells => BELL,
             true => Simple::Atom(b'a'),
             false => maker.random.pick(context).clone(),
         };
@@ -116,9 +128,11 @@ impl<'a> Maker<'a> {
     fn derive_simple(&mut self, context: &[Simple], goal: &Simple, depth: usize) -> Option<Derivation> {
         self.allowance = self.allowance.checked_sub(1)?;
         if depth == 0 {
-            return self.index(context, goal).or_else(|| self.closure(context, goal, 0));
+            let leaf = if self.bells && self.random.once_in(2) { self.bell(context, goal) } else { None };
+            let leaf = leaf.or_else(|| self.index(context, goal)).or_else(|| self.bell(context, goal));
+            return leaf.or_else(|| self.closure(context, goal, 0));
         }
-        let mut ways = *b"JRHHffAAss";
+        let mut ways = if self.bells { b"JRHHffAAssKK".to_vec() } else { b"JRHHffAAss".to_vec() };
         self.random.shuffle(&mut ways);
         ways.iter().find_map(|&rule| self.derive_by(rule, context, goal, depth - 1))
     }
@@ -126,6 +140,7 @@ impl<'a> Maker<'a> {
     fn derive_by(&mut self, rule: u8, context: &[Simple], goal: &Simple, depth: usize) -> Option<Derivation> {
         match rule {
             b'J' => self.index(context, goal),
+            b'K' => self.bell(context, goal),
             b'R' => {
                 let inner = self.derive_simple(context.get(1..)?, goal, depth)?;
                 Some(use_of(b'R', context, inner.kind.clone(), vec![inner]))
@@ -146,6 +161,14 @@ impl<'a> Maker<'a> {
         let last = use_of(b'J', &context[place..], kind.clone(), vec![]);
         let around = |inner, start: usize| use_of(b'R', &context[start..], kind.clone(), vec![inner]);
         Some((0..place).rev().fold(last, around))
+    }
+
+    /// Some bell, for the type that bells have.
+    fn bell(&mut self, context: &[Simple], goal: &Simple) -> Option<Derivation> {
+        if !self.bells || *goal != BELL {
+            return None;
+        }
+        Some(bell_in(context, *self.random.pick(&Bell::all())))
     }
 
     fn application(&mut self, rule: u8, context: &[Simple], goal: &Simple, depth: usize) -> Option<Derivation> {
@@ -259,13 +282,28 @@ fn line(derivation: &Derivation, numbers: [Vec<u8>; 2]) -> Vec<u8> {
     line
 }
 
-/// So many derivations of terms of fewer than 400 letters. Their files may still be over the limits.
+/// A derivation of a term of fewer than 400 letters, if one is found.
+fn one(random: &mut Random, bells: bool) -> Option<Derivation> {
+    let depth = random.between(1, 5);
+    let made = Maker::new(random, bells).any(depth);
+    made.filter(|derivation| derivation.term().size() < 400)
+}
+
+/// So many derivations, of which two in three may use rule K. Their files may still be over the limits.
 pub fn some(random: &mut Random, count: usize) -> Vec<Derivation> {
     let mut found = vec![];
     while found.len() < count {
-        let depth = random.between(1, 5);
-        let made = Maker::new(random).any(depth);
-        found.extend(made.filter(|derivation| derivation.term().size() < 400));
+        let bells = !random.once_in(3);
+        found.extend(one(random, bells));
+    }
+    found
+}
+
+/// So many derivations without bells.
+pub fn some_without_bells(random: &mut Random, count: usize) -> Vec<Derivation> {
+    let mut found = vec![];
+    while found.len() < count {
+        found.extend(one(random, false));
     }
     found
 }
@@ -301,6 +339,7 @@ fn contracted(redex: &Derivation) -> Derivation {
             again(b'A', vec![environment, argument.premises[1].clone()])
         }
         (b'B', b'I') => again(b'I', vec![]),
+        (b'B', b'K') => bell_in(&redex.context, argument.bell.expect("rule K has a bell")),
         (b'B', b'B') => again(b'B', argument.premises.iter().map(|part| applied(function, part)).collect()),
         (x, y) => panic!("no rule fits derivations by {} and {}", x as char, y as char),
     }
@@ -327,5 +366,5 @@ fn weakened(derivation: &Derivation, context: &[Simple]) -> Derivation {
     for premise in &mut premises[..in_same_context] {
         *premise = weakened(premise, context);
     }
-    use_of(derivation.rule, context, derivation.kind.clone(), premises)
+    Derivation { bell: derivation.bell, ..use_of(derivation.rule, context, derivation.kind.clone(), premises) }
 }

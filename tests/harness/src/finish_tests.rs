@@ -8,7 +8,7 @@ use crate::step_tests::{call_on, padded};
 use crate::subject::Controller;
 use crate::suite::{equal, shown, Outcome, Suite};
 use crate::table::finishing::{examples, long_rows, refused_rows, rows, RefusedRow, Row};
-use crate::terms::{all_of_size, random_of_size, twice_nested};
+use crate::terms::{random_of_size, texts_of_size, twice_nested, LETTERS, NO_BELLS};
 
 fn by_hand(subject: &dyn Controller, row: &Row) -> Outcome {
     let mut area = row.term.clone();
@@ -31,8 +31,7 @@ fn refused_by_hand(subject: &dyn Controller, row: &RefusedRow) -> Outcome {
 fn small_terms(subject: &dyn Controller) -> Outcome {
     let mut random = Random::new(11);
     for size in 1..=6 {
-        for term in all_of_size(size) {
-            let text = term.text();
+        for text in texts_of_size(size, NO_BELLS) {
             for room in [0, 1, 4, 5, 6, 30] {
                 for fuel in [0, 1, 2, 3, 5, 40] {
                     agree(subject, &call_on(&mut random, &text, size + room), Some(fuel))?;
@@ -98,7 +97,7 @@ fn damaged_terms(subject: &dyn Controller) -> Outcome {
         let size = random.between(1, 40);
         let mut text = random_of_size(&mut random, size).text();
         for _ in 0..random.between(1, 2) {
-            text = damaged(&mut random, &text, b"JRHAIB.");
+            text = damaged(&mut random, &text, LETTERS);
         }
         let room = random.below(12);
         let fuel = *random.pick(&[0, 1, 20, 1_000_001]);
@@ -196,7 +195,9 @@ pub fn made(suite: &mut Suite, label: &str, subject: impl Controller) {
 /// Calls whose replies the plain reducer predicts.
 pub fn predicted(suite: &mut Suite, label: &str, subject: impl Controller) {
     suite.test(&format!("{label} finishing: refusals at their edges"), || edges(&subject));
-    suite.test(&format!("{label} finishing: every term of up to 6 letters"), || small_terms(&subject));
+    suite.test(&format!("{label} finishing: every term of up to 6 letters without bells"), || {
+        small_terms(&subject)
+    });
     suite.test(&format!("{label} finishing: random terms with every fuel"), || every_fuel(&subject));
     suite.test(&format!("{label} finishing: random terms"), || random_terms(&subject));
     suite.test(&format!("{label} finishing: large random terms"), || large_terms(&subject));

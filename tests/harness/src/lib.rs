@@ -16,6 +16,7 @@ pub mod random;
 pub mod read_tests;
 pub mod reply;
 pub mod self_tests;
+pub mod small_tests;
 pub mod step_tests;
 pub mod subject;
 pub mod suite;

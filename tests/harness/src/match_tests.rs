@@ -56,7 +56,7 @@ fn damaged_files(subject: &dyn Controller) -> Outcome {
         let (side, field) = (random.below(2), random.below(6));
         let file = &chosen[side].clone();
         chosen[side] = match random.below(3) {
-            0 => damaged(&mut random, file, b"\t\n-1ab>*JI."),
+            0 => damaged(&mut random, file, b"\t\n-1ab>*JI.K"),
             1 => with_field_damaged(&mut random, file, field),
             _ => with_field_of_other_line(&mut random, file, field),
         };

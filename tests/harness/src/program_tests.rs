@@ -93,7 +93,7 @@ fn random_lines(subject: &dyn Programs) -> Outcome {
     for _ in 0..400 {
         let line = random_line(&mut random);
         agree_finish(subject, &line)?;
-        agree_finish(subject, &damaged(&mut random, &line, b"\t\n0159JRHAIB."))?;
+        agree_finish(subject, &damaged(&mut random, &line, b"\t\n0159JRHAIB.ET"))?;
     }
     Ok(())
 }
@@ -104,7 +104,7 @@ fn random_files(subject: &dyn Programs) -> Outcome {
         let file = file_of(&derivation, *random.pick(&LAYOUTS));
         if within_limits(&file) {
             agree_check(subject, &file)?;
-            agree_check(subject, &damaged(&mut random, &file, b"\t\n-1ab>*JI."))?;
+            agree_check(subject, &damaged(&mut random, &file, b"\t\n-1ab>*JI.K"))?;
         }
     }
     Ok(())

@@ -6,9 +6,10 @@ use crate::lent::predict_plain;
 use crate::random::Random;
 use crate::subject::Second;
 use crate::suite::{equal, equal_bytes, shown, Outcome, Suite};
-use crate::terms::{all_of_size, random_of_size};
+use crate::terms::{all_of_size, random_of_size, ALL_BELLS, BELLS, NO_BELLS, TWO_BELLS};
 use crate::{
-    check_tests, compare_tests, deep, finish_tests, huge, match_tests, program_tests, read_tests, step_tests,
+    check_tests, compare_tests, deep, finish_tests, huge, match_tests, program_tests, read_tests, small_tests,
+    step_tests,
 };
 use second::checking::check;
 use second::finishing::{run, Outcome as End};
@@ -16,34 +17,44 @@ use second::machine::Machine;
 use second::order::{next_place, part_at};
 use second::plain::{rewrite_at, Plain};
 use second::rules::growth;
-use second::stepping::Reducer;
+use second::stepping::{Next, Reducer};
 use second::term::Term;
 
 /// How many terms there are of each size, reckoned by hand: one letter takes a term, four letters take two.
 fn numbers_of_terms() -> Outcome {
-    for (size, number) in [(1, 2), (2, 2), (3, 18), (4, 50), (5, 354), (6, 1_442), (7, 9_202)] {
-        let mut texts: Vec<Vec<u8>> = all_of_size(size).iter().map(Term::text).collect();
-        texts.sort();
-        texts.dedup();
-        equal(&format!("terms of size {size}"), texts.len(), number)?;
+    let of_sizes: [(&str, &[usize]); 3] = [
+        (NO_BELLS, &[2, 2, 18, 50, 354, 1_442, 9_202]),
+        (TWO_BELLS, &[4, 4, 68, 196, 2_436, 10_884, 113_604]),
+        (ALL_BELLS, &[14, 14, 798, 2_366, 92_526]),
+    ];
+    for (ends, numbers) in of_sizes {
+        for (size, &number) in (1..).zip(numbers) {
+            let mut texts: Vec<Vec<u8>> = all_of_size(size, ends).iter().map(Term::text).collect();
+            texts.sort();
+            texts.dedup();
+            equal(&format!("terms of size {size} over {ends}"), texts.len(), number)?;
+        }
     }
     Ok(())
 }
 
-/// All 18 terms of size 3 finish; four of them are applications, of one step each.
+/// All terms of size 3 finish; the applications among them, of any two terms of size 1, take one step each.
 fn runs_of_size_3() -> Outcome {
-    let mut steps = 0;
-    for term in all_of_size(3) {
-        let (outcome, count) = run(&mut Plain { term }, 20, 10);
-        equal("outcome", outcome, End::Finished)?;
-        steps += count;
+    for (ends, applications) in [(NO_BELLS, 4), (TWO_BELLS, 16), (ALL_BELLS, 196)] {
+        let mut steps = 0;
+        for term in all_of_size(3, ends) {
+            let (outcome, count) = run(&mut Plain { term }, 20, 10);
+            equal("outcome", outcome, End::Finished)?;
+            steps += count;
+        }
+        equal(&format!("steps over {ends}"), steps, applications)?;
     }
-    equal("steps", steps, 4)
+    Ok(())
 }
 
 /// A term has a next step exactly when it is not normal; the step's size is the one foreseen.
 fn every_small_step() -> Outcome {
-    for term in (1..=7).flat_map(all_of_size) {
+    for term in (1..=7).flat_map(|size| all_of_size(size, TWO_BELLS)) {
         let place = next_place(&term);
         equal(&shown(&term.text()), place.is_none(), term.is_normal())?;
         let Some(way) = place else { continue };
@@ -108,14 +119,14 @@ fn any_order() -> Outcome {
 fn types_are_kept() -> Outcome {
     let mut random = Random::new(63);
     let layout = Layout { shared: true, second_first: false };
-    let mut steps = 0;
+    let (mut steps, mut bells) = (0, 0);
     for derivation in some(&mut random, 250) {
         let mut plain = Plain { term: derivation.term() };
         let mut now = derivation;
         while let Some(next) = after_step(&now).filter(|next| next.term().size() < 400) {
             let lines = check(&file_of(&next, layout)).map_err(|refusal| format!("{refusal:?}"))?;
             let claim = lines.last().ok_or("a derivation has a line")?;
-            plain.next(false, usize::MAX);
+            bells += usize::from(plain.next(false, usize::MAX) == Next::Stepped(13));
             equal("the claim is on the next term", &claim.term, &plain.term)?;
             equal("context", &claim.context, &now.context)?;
             equal("type", &claim.kind, &now.kind)?;
@@ -123,7 +134,26 @@ fn types_are_kept() -> Outcome {
             steps += 1;
         }
     }
-    equal("more than 1,000 steps were made", steps > 1_000, true)
+    equal("more than 1,000 steps were made", steps > 1_000, true)?;
+    equal("more than 20 of them by rule 13", bells > 20, true)
+}
+
+/// The generated derivations use each of the nine rules, and each bell.
+fn rules_of_derivations() -> Outcome {
+    let mut random = Random::new(64);
+    let mut lines = String::new();
+    for derivation in some(&mut random, 300) {
+        let file = file_of(&derivation, Layout { shared: true, second_first: false });
+        lines += std::str::from_utf8(&file).map_err(|error| error.to_string())?;
+    }
+    for rule in ["J", "R", "H", "f", "A", "I", "B", "s", "K"] {
+        equal(&format!("rule {rule} is used"), lines.contains(&format!("\t{rule}\t")), true)?;
+    }
+    for bell in BELLS.map(char::from) {
+        let line = format!("\t{bell}\tb\tK\t-\t-\n");
+        equal(&format!("bell {bell} is used"), lines.contains(&line), true)?;
+    }
+    Ok(())
 }
 
 /// Everything whose reply is known without the second implementation: first what is quick.
@@ -158,6 +188,7 @@ fn two_reducers(suite: &mut Suite) {
     let fast = Second::<Machine>::new();
     step_tests::predicted(suite, "fast", fast);
     finish_tests::predicted(suite, "fast", fast);
+    small_tests::predicted(suite, "fast", fast);
     finish_tests::long(suite, "plain", Second::<Plain>::new(), finish_tests::THOUSANDS_OF_STEPS);
     deep::reductions(suite, "fast", fast, 300, predict_plain);
     compare_tests::predicted(suite, "fast", fast);
@@ -174,4 +205,5 @@ pub fn all(suite: &mut Suite) {
     suite.test("self: terms joined by changes have one result", joined_terms);
     suite.test("self: rules in any order lead to one result", any_order);
     suite.test("self: typed terms keep their type", types_are_kept);
+    suite.test("self: generated derivations use every rule and every bell", rules_of_derivations);
 }

@@ -1,31 +1,45 @@
 //! Terms to test with: every small one, random ones, and those of special shapes.
 
 use crate::random::Random;
-use second::term::{a, apply, b, h, r, Term};
+use second::bell::Bell;
+use second::term::{a, apply, b, h, parse, r, Term};
 
-/// Every term of exactly this size.
-pub fn all_of_size(size: usize) -> Vec<Term> {
-    let mut by_size: Vec<Vec<Term>> = vec![vec![]];
-    for now in 1..=size {
-        let next = all_from_smaller(now, &by_size);
+/// The letters of terms.
+pub const LETTERS: &[u8; 19] = b"JRHAIB.1234567890ET";
+/// The letters of bells one to twelve.
+pub const BELLS: &[u8; 12] = b"1234567890ET";
+
+/// The letters in which small terms may end: without bells, with two of them, and with all.
+pub const NO_BELLS: &str = "JI";
+pub const TWO_BELLS: &str = "JI1T";
+pub const ALL_BELLS: &str = "JI1234567890ET";
+
+/// The text of every term of exactly this size whose letters that take no term are among these.
+pub fn texts_of_size(size: usize, ends: &str) -> Vec<Vec<u8>> {
+    let mut by_size: Vec<Vec<Vec<u8>>> = vec![vec![], ends.bytes().map(|letter| vec![letter]).collect()];
+    for now in 2..=size {
+        let next = texts_from_smaller(now, &by_size);
         by_size.push(next);
     }
-    by_size.pop().expect("the list is not empty")
+    by_size.swap_remove(size)
 }
 
-fn all_from_smaller(size: usize, by_size: &[Vec<Term>]) -> Vec<Term> {
-    if size == 1 {
-        return vec![Term::J, Term::I];
-    }
-    let mut found: Vec<Term> = by_size[size - 1].iter().cloned().map(r).collect();
+fn texts_from_smaller(size: usize, by_size: &[Vec<Vec<u8>>]) -> Vec<Vec<u8>> {
+    let mut found: Vec<Vec<u8>> = by_size[size - 1].iter().map(|t| joined(&[b"R", t])).collect();
     for first in 1..size - 1 {
         for x in &by_size[first] {
             for y in &by_size[size - 1 - first] {
-                found.extend([h, a, b, apply].map(|node| node(x.clone(), y.clone())));
+                found.extend(b"HAB.".map(|letter| joined(&[&[letter], x, y])));
             }
         }
     }
     found
+}
+
+/// The terms with these texts.
+pub fn all_of_size(size: usize, ends: &str) -> Vec<Term> {
+    let term = |text: Vec<u8>| parse(&text).expect("the text of a term");
+    texts_of_size(size, ends).into_iter().map(term).collect()
 }
 
 /// How often each letter is taken: (letter, weight).
@@ -49,6 +63,14 @@ fn letter(random: &mut Random, weights: &Weights) -> u8 {
     unreachable!("the weights cover the number")
 }
 
+fn random_leaf(random: &mut Random) -> Term {
+    match random.below(4) {
+        0 => Term::K(*random.pick(&Bell::all())),
+        1 => Term::I,
+        _ => Term::J,
+    }
+}
+
 /// A random term of exactly this size.
 pub fn random_of_size(random: &mut Random, size: usize) -> Term {
     let weights = *random.pick(&[MIXED, PAIRS, CLOSURES]);
@@ -57,7 +79,7 @@ pub fn random_of_size(random: &mut Random, size: usize) -> Term {
 
 fn weighted(random: &mut Random, size: usize, weights: &Weights) -> Term {
     match size {
-        1 => random.pick(&[Term::J, Term::J, Term::I]).clone(),
+        1 => random_leaf(random),
         2 => r(weighted(random, 1, weights)),
         _ => larger(random, size, weights),
     }

@@ -11,16 +11,22 @@ pub struct Bug {
     reply: fn(u64) -> u64,
     /// What becomes of a lent area and the work area, after a call with this reply.
     bytes: fn(u64, &mut [u8], &mut [u8]),
+    /// What becomes of the reply to bytes that are read or checked.
+    read: fn(&[u8], u64) -> u64,
 }
 
 fn kept(_: u64, _: &mut [u8], _: &mut [u8]) {}
 
 const fn replies(name: &'static str, reply: fn(u64) -> u64) -> Bug {
-    Bug { name, reply, bytes: kept }
+    Bug { name, reply, bytes: kept, read: |_, reply| reply }
 }
 
 const fn leaves(name: &'static str, bytes: fn(u64, &mut [u8], &mut [u8])) -> Bug {
-    Bug { name, reply: |reply| reply, bytes }
+    Bug { name, reply: |reply| reply, bytes, read: |_, reply| reply }
+}
+
+const fn reads(name: &'static str, read: fn(&[u8], u64) -> u64) -> Bug {
+    Bug { name, reply: |reply| reply, bytes: kept, read }
 }
 
 /// What becomes of the replies with one of these codes; the others stay.
@@ -71,6 +77,26 @@ fn work_used_by_a_refusal(reply: u64, _: &mut [u8], work: &mut [u8]) {
     }
 }
 
+fn bell_eleven_written_as_twelve(reply: u64, area: &mut [u8], _: &mut [u8]) {
+    if !is_refusal(reply) {
+        area.iter_mut().filter(|letter| **letter == b'E').for_each(|letter| *letter = b'T');
+    }
+}
+
+fn bell_ten_refused(slice: &[u8], reply: u64) -> u64 {
+    match slice.iter().position(|&letter| letter == b'0') {
+        Some(place) if code(reply) == WHOLE => placed(5, place),
+        _ => reply,
+    }
+}
+
+fn unknown_rule_k(file: &[u8], reply: u64) -> u64 {
+    match file.windows(3).any(|bytes| bytes == b"\tK\t") && code(reply) == ACCEPTED {
+        true => placed(16, 1),
+        false => reply,
+    }
+}
+
 /// The tests' areas have guard bytes around them.
 fn byte_behind_the_area(reply: u64, area: &mut [u8], _: &mut [u8]) {
     if !is_refusal(reply) {
@@ -78,13 +104,21 @@ fn byte_behind_the_area(reply: u64, area: &mut [u8], _: &mut [u8]) {
     }
 }
 
-static BUGS: [Bug; 19] = [
+static BUGS: [Bug; 24] = [
     replies("5 one place too far", |reply| changed(reply, &[5], |reply| reply + ONE)),
     replies("places of 24 bits", |reply| changed(reply, &[5, 6, 7], |reply| reply & 0xffff_ffff)),
     replies("a size read of 24 bits", |reply| changed(reply, &[WHOLE], |reply| reply & 0xffff_ffff)),
     replies("17 answered as 18", |reply| exchanged(reply, 17, 18)),
     replies("rule 11 answered as rule 8", |reply| match (code(reply), value(reply)) {
         (STEPPED, 11) => reply - 3 * ONE,
+        _ => reply,
+    }),
+    replies("rule 12 answered as rule 1", |reply| match (code(reply), value(reply)) {
+        (STEPPED, 12) => reply - 11 * ONE,
+        _ => reply,
+    }),
+    replies("rule 13 answered as rule 10", |reply| match (code(reply), value(reply)) {
+        (STEPPED, 13) => reply - 3 * ONE,
         _ => reply,
     }),
     replies("a step without room answered as normal", |reply| exchanged(reply, STEP_NO_ROOM, NORMAL)),
@@ -101,6 +135,9 @@ static BUGS: [Bug; 19] = [
     leaves("the work area cleared as far as the term area", long_work_left),
     leaves("a byte written behind the area", byte_behind_the_area),
     leaves("a refused call clears the work area", work_used_by_a_refusal),
+    leaves("bell eleven written as bell twelve", bell_eleven_written_as_twelve),
+    reads("bell ten refused by reading", bell_ten_refused),
+    reads("K an unknown rule", unknown_rule_k),
 ];
 
 pub fn bugs() -> &'static [Bug] {
@@ -116,7 +153,7 @@ pub struct Wrong<C> {
 
 impl<C: Controller> Controller for Wrong<C> {
     fn read(&self, slice: &[u8]) -> u64 {
-        (self.bug.reply)(self.subject.read(slice))
+        (self.bug.reply)((self.bug.read)(slice, self.subject.read(slice)))
     }
 
     fn step(&self, area: &mut [u8], term: usize, work: &mut [u8]) -> u64 {
@@ -136,7 +173,7 @@ impl<C: Controller> Controller for Wrong<C> {
     }
 
     fn check(&self, file: &[u8]) -> u64 {
-        (self.bug.reply)(self.subject.check(file))
+        (self.bug.reply)((self.bug.read)(file, self.subject.check(file)))
     }
 
     fn match_claims(&self, first: &[u8], second: &[u8]) -> u64 {

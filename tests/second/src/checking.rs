@@ -2,7 +2,7 @@
 
 use crate::refusal::*;
 use crate::term::{self, Term};
-use crate::types::{arrow, parse_context, parse_type, Context, Simple, Type};
+use crate::types::{arrow, parse_context, parse_type, Context, Simple, Type, BELL};
 
 pub const MAX_FILE: usize = 65_536;
 pub const MAX_LINES: usize = 1_024;
@@ -50,7 +50,7 @@ fn judgement(context: &[u8], term: &[u8], kind: &[u8]) -> Option<Judgement> {
 /// How many premises the rule takes; none for an unknown rule.
 fn premises_of(rule: &[u8]) -> Option<usize> {
     match rule {
-        b"J" | b"I" => Some(0),
+        b"J" | b"I" | b"K" => Some(0),
         b"R" => Some(1),
         b"H" | b"f" | b"A" | b"B" | b"s" => Some(2),
         _ => None,
@@ -161,6 +161,11 @@ fn follows_s(own: &Judgement, first: &Judgement, second: &Judgement) -> bool {
     says(first, &own.context, s, &first.kind) && says(second, d, t, &own.kind)
 }
 
+/// Rule K.
+fn follows_k(own: &Judgement) -> bool {
+    matches!(own.term, Term::K(_)) && own.kind == Type::Simple(BELL)
+}
+
 /// Is the judgement an instance of the rule with these premises?
 fn follows(own: &Judgement, rule: &[u8], premises: [Option<&Judgement>; 2]) -> bool {
     match (rule, premises, &own.term) {
@@ -172,6 +177,7 @@ fn follows(own: &Judgement, rule: &[u8], premises: [Option<&Judgement>; 2]) -> b
         (b"I", [None, None], _) => follows_i(own),
         (b"B", [Some(x), Some(y)], _) => follows_b(own, x, y),
         (b"s", [Some(x), Some(y)], _) => follows_s(own, x, y),
+        (b"K", [None, None], _) => follows_k(own),
         _ => false,
     }
 }

@@ -168,18 +168,19 @@ impl Machine {
                 self.focus = Focus::Term(x);
                 5
             }
-            _ => self.substitute(f, x),
+            b'B' => self.substitute(f, x),
+            _ => self.freeze(f, x, 12),
         }
     }
 
-    /// Rules 1 to 3.
+    /// Rules 1 to 3, and 12.
     fn freeze(&mut self, f: Id, x: Id, rule: u8) -> u8 {
         let frozen = self.pair(b'H', f, x);
         self.focus = Focus::Term(frozen);
         rule
     }
 
-    /// Rules 6 to 11, of a pair f.
+    /// Rules 6 to 11, and 13, of a pair f.
     fn substitute(&mut self, f: Id, x: Id) -> u8 {
         let (u, s) = self.parts(f);
         let (first, second) = self.parts(x);
@@ -212,12 +213,17 @@ impl Machine {
                 self.focus = Focus::Term(x);
                 10
             }
-            _ => {
+            b'B' => {
                 self.size += 1 + self.size_of(f);
                 let (one, two) = (self.pair(b'.', f, first), self.pair(b'.', f, second));
                 let whole = self.pair(b'B', one, two);
                 self.focus = Focus::Term(whole);
                 11
+            }
+            _ => {
+                self.size -= 1 + self.size_of(f);
+                self.focus = Focus::Term(x);
+                13
             }
         }
     }

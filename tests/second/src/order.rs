@@ -13,7 +13,7 @@ pub fn next_place(term: &Term) -> Option<Way> {
 
 fn find(term: &Term, way: &mut Way) -> bool {
     match term {
-        J | I => false,
+        J | I | K(_) => false,
         R(t) => down(t, false, way),
         H(x, y) | A(x, y) | B(x, y) => down(x, false, way) || down(y, true, way),
         Apply(f, _) if f.is_application() => down(f, false, way),

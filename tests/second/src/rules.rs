@@ -1,4 +1,4 @@
-//! The eleven rules with their numbers (REQUIREMENTS, Rules).
+//! The thirteen rules with their numbers (REQUIREMENTS, Rules).
 
 use crate::term::Term::{self, *};
 use crate::term::{a, apply, b, h};
@@ -17,6 +17,8 @@ pub fn rule_of(f: &Term, x: &Term) -> Option<u8> {
         (B(..), A(..)) => Some(9),
         (B(..), I) => Some(10),
         (B(..), B(..)) => Some(11),
+        (K(_), _) => Some(12),
+        (B(..), K(_)) => Some(13),
         (B(..), Apply(..)) | (Apply(..), _) => None,
     }
 }
@@ -43,6 +45,8 @@ pub fn contract(f: Term, x: Term) -> Term {
         (B(u, s), A(r, t)) => a(apply(B(u, s), *r), *t),
         (B(..), I) => I,
         (B(u, s), B(r, t)) => b(apply(B(u.clone(), s.clone()), *r), apply(B(u, s), *t)),
+        (K(k), t) => h(K(k), t),
+        (B(..), K(k)) => K(k),
         (f, x) => apply(f, x),
     }
 }

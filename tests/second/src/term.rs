@@ -1,5 +1,6 @@
 //! Terms as trees, and their text in prefix form.
 
+use crate::bell::Bell;
 use crate::reading::read;
 use crate::refusal::Refusal;
 
@@ -12,6 +13,8 @@ pub enum Term {
     A(Box<Term>, Box<Term>),
     I,
     B(Box<Term>, Box<Term>),
+    /// A bell, written with its own letter.
+    K(Bell),
     /// An application, written with a full stop.
     Apply(Box<Term>, Box<Term>),
 }
@@ -24,7 +27,7 @@ pub fn arity(letter: u8) -> Option<usize> {
         b'J' | b'I' => Some(0),
         b'R' => Some(1),
         b'H' | b'A' | b'B' | b'.' => Some(2),
-        _ => None,
+        _ => Bell::of(letter).map(|_| 0),
     }
 }
 
@@ -54,6 +57,7 @@ impl Term {
             A(..) => b'A',
             I => b'I',
             B(..) => b'B',
+            K(bell) => bell.letter(),
             Apply(..) => b'.',
         }
     }
@@ -61,7 +65,7 @@ impl Term {
     /// The terms that the first letter takes, from left to right.
     pub fn parts(&self) -> [Option<&Term>; 2] {
         match self {
-            J | I => [None, None],
+            J | I | K(_) => [None, None],
             R(t) => [Some(t), None],
             H(x, y) | A(x, y) | B(x, y) | Apply(x, y) => [Some(x), Some(y)],
         }
@@ -70,7 +74,7 @@ impl Term {
     /// The part on the given side, to be changed where it stands.
     pub fn part_mut(&mut self, second: bool) -> Option<&mut Term> {
         match self {
-            J | I => None,
+            J | I | K(_) => None,
             R(t) => (!second).then_some(t),
             H(x, y) | A(x, y) | B(x, y) | Apply(x, y) => Some(if second { y } else { x }),
         }
@@ -126,6 +130,7 @@ fn node(letter: u8, terms: &mut Vec<Term>) -> Term {
         b'A' => a(part(), part()),
         b'I' => I,
         b'B' => b(part(), part()),
-        _ => apply(part(), part()),
+        b'.' => apply(part(), part()),
+        _ => K(Bell::of(letter).expect("a text that was read has no other letters")),
     }
 }

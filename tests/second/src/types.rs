@@ -15,6 +15,9 @@ pub enum Type {
     Context(Context),
 }
 
+/// The type of every bell: the atom `b`.
+pub const BELL: Simple = Simple::Atom(b'b');
+
 pub fn arrow(from: Simple, to: Simple) -> Simple {
     Simple::Arrow(Box::new(from), Box::new(to))
 }

@@ -1,7 +1,7 @@
 -- `instances::asks` meets its contract: each rule's own test is that of the definition. Assumes nothing.
 use mathlib.Core.Path.{refl}
 use mathlib.Core.Bool.{false}
-use Rattle.rules.specs.declared.Rule.the-variants.{J, R, H, A, F, I, B, S, Unknown}
+use Rattle.rules.specs.declared.Rule.the-variants.{J, R, H, A, F, I, B, S, K, Unknown}
 use Rattle.fields.specs.Fields.{textsAt}
 use Rattle.instances.proofs.TextInstance.{asks-by}
 use borrow.Author.Needs.{needs}
@@ -58,6 +58,12 @@ asks-s-requires c κs = search needs
 
 enum-told-9 : tie.Need-enum-told-9
 enum-told-9 c = search needs
+
+asks-k-requires : tie.Need-asks-k-requires
+asks-k-requires c κs = search needs
+
+enum-told-10 : tie.Need-enum-told-10
+enum-told-10 c = search needs
 
 returns : tie.Need-returns
 returns c =
@@ -117,10 +123,17 @@ returns-8 c =
 
 returns-9 : tie.Need-returns-9
 returns-9 c =
+    let start = c .before .before .before .before in
+    asks-by (start .args .rule) K (textsAt (start .args .own) (start .args .file .now))
+    (textsAt (start .args .first) (start .args .file .now)) (textsAt (start .args .second) (start .args .file .now)) (c .asks-k .result)
+    (c .before .enum-told9 .given .1) (c .asks-k .ensures)
+
+returns-10 : tie.Need-returns-10
+returns-10 c =
     let start = c .before .before .before in
     asks-by (start .args .rule) Unknown (textsAt (start .args .own) (start .args .file .now))
     (textsAt (start .args .first) (start .args .file .now)) (textsAt (start .args .second) (start .args .file .now)) false
-    (c .enum-told9 .given .1) refl
+    (c .enum-told10 .given .1) refl
 
 pub asks-spec : {M : Type 1} → statement M
 asks-spec =
@@ -143,6 +156,8 @@ asks-spec =
     enum-told-8
     asks-s-requires
     enum-told-9
+    asks-k-requires
+    enum-told-10
     returns
     returns-2
     returns-3
@@ -151,4 +166,5 @@ asks-spec =
     returns-6
     returns-7
     returns-8
-    returns-9)
+    returns-9
+    returns-10)

@@ -1,9 +1,9 @@
 -- `rewriting::pair_at` meets its contract: each test picks the case of its letter. Assumes nothing.
-use mathlib.Core.Path.{_∙_, ap}
+use mathlib.Core.Path.{sym, _∙_, ap}
 use Prim.Native.Nat.{ℕ, _+_}
 use Rattle.calculus.specs.Letter.{Letter, byte}
 use Rattle.rewriting.specs.Rewriting.{between, nothing, spread}
-use Rattle.rewriting.proofs.Tested.{Other, pair-letter, pair-others}
+use Rattle.rewriting.proofs.Tested.{Other, pair-letter, pair-bell, pair-others}
 use borrow.Author.Needs.{needs}
 use Rattle.rewriting.proofs.pair_at.Statement.{statement}
 use Rattle.rewriting.proofs.pair_at.Tie as tie
@@ -56,6 +56,22 @@ returns-3 c =
     ∙ pair-letter (a .s .now) (a .p) (a .mid) (a .end) (at-byte-at .byte-at .result) (at-byte-at .byte-at .ensures) Letter.I
     (c .before .if3 .taken)
 
+is-bell-requires : tie.Need-is-bell-requires
+is-bell-requires c κs = search needs
+
+picked-requires-4 : tie.Need-picked-requires-4
+picked-requires-4 c κs = search needs
+
+returns-4 : tie.Need-returns-4
+returns-4 c =
+    let at-is-bell = c .before .before in
+    let at-byte-at = at-is-bell .before .before .before .before in
+    let start = at-byte-at .before .before in
+    let a = start .args in
+    c .picked4 .ensures
+    ∙ pair-bell (a .s .now) (a .p) (a .mid) (a .end) (at-byte-at .byte-at .result) (at-byte-at .byte-at .ensures)
+    (sym (at-is-bell .is-bell .ensures) ∙ c .before .if4 .taken)
+
 part-end-requires : tie.Need-part-end-requires
 part-end-requires c κs = search needs
 
@@ -65,56 +81,57 @@ add-spread c = search needs
 spread-requires : tie.Need-spread-requires
 spread-requires c κs = search needs
 
-returns-4 : tie.Need-returns-4
-returns-4 c =
+returns-5 : tie.Need-returns-5
+returns-5 c =
     let at-part-end = c .before .before in
-    let at-byte-at = at-part-end .before .before .before .before in
+    let at-byte-at = at-part-end .before .before .before .before .before .before in
     let start = at-byte-at .before .before in
     let a = start .args in
     let pair = between (a .p) (a .end) in
     c .spread .ensures
     ∙ ap (λ (k : ℕ). spread 8 (a .p + 1) 0 pair (between (a .end + 1) k) pair) (at-part-end .part-end .ensures)
     ∙ pair-letter (a .s .now) (a .p) (a .mid) (a .end) (at-byte-at .byte-at .result) (at-byte-at .byte-at .ensures) Letter.H
-    (c .before .if4 .taken)
+    (c .before .if5 .taken)
 
 spread-requires-2 : tie.Need-spread-requires-2
 spread-requires-2 c κs = search needs
 
-returns-5 : tie.Need-returns-5
-returns-5 c =
+returns-6 : tie.Need-returns-6
+returns-6 c =
     let at-part-end = c .before .before .before in
-    let at-byte-at = at-part-end .before .before .before .before in
+    let at-byte-at = at-part-end .before .before .before .before .before .before in
     let start = at-byte-at .before .before in
     let a = start .args in
     let pair = between (a .p) (a .end) in
     c .spread2 .ensures
     ∙ ap (λ (k : ℕ). spread 9 (a .p) (byte Letter.A) pair (between (a .end + 1) k) nothing) (at-part-end .part-end .ensures)
     ∙ pair-letter (a .s .now) (a .p) (a .mid) (a .end) (at-byte-at .byte-at .result) (at-byte-at .byte-at .ensures) Letter.A
-    (c .before .if5 .taken)
+    (c .before .if6 .taken)
 
 spread-requires-3 : tie.Need-spread-requires-3
 spread-requires-3 c κs = search needs
 
-returns-6 : tie.Need-returns-6
-returns-6 c =
+returns-7 : tie.Need-returns-7
+returns-7 c =
     let at-part-end = c .before .before .before .before in
-    let at-byte-at = at-part-end .before .before .before .before in
+    let at-byte-at = at-part-end .before .before .before .before .before .before in
     let start = at-byte-at .before .before in
     let a = start .args in
     let pair = between (a .p) (a .end) in
     c .spread3 .ensures
     ∙ ap (λ (k : ℕ). spread 11 (a .p) (byte Letter.B) pair (between (a .end + 1) k) pair) (at-part-end .part-end .ensures)
     ∙ pair-letter (a .s .now) (a .p) (a .mid) (a .end) (at-byte-at .byte-at .result) (at-byte-at .byte-at .ensures) Letter.B
-    (c .before .if6 .taken)
+    (c .before .if7 .taken)
 
 unchanged-requires : tie.Need-unchanged-requires
 unchanged-requires c κs = search needs
 
-returns-7 : tie.Need-returns-7
-returns-7 c =
-    let at-if5 = c .before .before in
-    let at-if4 = at-if5 .before in
-    let at-if3 = at-if4 .before .before in
+returns-8 : tie.Need-returns-8
+returns-8 c =
+    let at-if6 = c .before .before in
+    let at-if5 = at-if6 .before in
+    let at-bell = at-if5 .before .before in
+    let at-if3 = at-bell .before .before in
     let at-if2 = at-if3 .before in
     let at-if1 = at-if2 .before in
     let at-byte-at = at-if1 .before in
@@ -124,10 +141,11 @@ returns-7 c =
     record {
       no-J = at-if1 .if1 .left;
       no-R = at-if2 .if2 .left;
-      no-H = at-if4 .if4 .left;
-      no-A = at-if5 .if5 .left;
+      no-H = at-if5 .if5 .left;
+      no-A = at-if6 .if6 .left;
       no-I = at-if3 .if3 .left;
-      no-B = c .before .if6 .left;
+      no-B = c .before .if7 .left;
+      no-bell = sym (at-bell .before .is-bell .ensures) ∙ at-bell .if4 .left;
     } in
     c .unchanged .ensures ∙ pair-others (a .s .now) (a .p) (a .mid) (a .end) (at-byte-at .byte-at .result) (at-byte-at .byte-at .ensures)
     other
@@ -146,13 +164,16 @@ pair-at-spec =
     returns-2
     picked-requires-3
     returns-3
+    is-bell-requires
+    picked-requires-4
+    returns-4
     part-end-requires
     add-spread
     spread-requires
-    returns-4
-    spread-requires-2
     returns-5
-    spread-requires-3
+    spread-requires-2
     returns-6
+    spread-requires-3
+    returns-7
     unchanged-requires
-    returns-7)
+    returns-8)

@@ -1,11 +1,11 @@
 -- `rewriting::rewrite_at` meets its contract: each test picks the case of its letter. Assumes nothing.
-use mathlib.Core.Path.{_∙_}
+use mathlib.Core.Path.{sym, _∙_}
 use Prim.Native.Nat.{_+_, _≤_}
 use native.Mathlib.Omega.{arith}
 use lib.ListN.{length}
 use Rattle.calculus.specs.Letter.{Letter}
 use Rattle.parts.proofs.Skip.{end-below}
-use Rattle.rewriting.proofs.Tested.{Other, rewrite-letter, rewrite-others, rewrite-past, pair-of, closure-of}
+use Rattle.rewriting.proofs.Tested.{Other, rewrite-letter, rewrite-bell, rewrite-others, rewrite-past, pair-of, closure-of}
 use borrow.Author.Needs.{needs}
 use Rattle.rewriting.proofs.rewrite_at.Statement.{statement}
 use Rattle.rewriting.proofs.rewrite_at.Tie as tie
@@ -128,12 +128,30 @@ returns-7 c =
     (c .before .part-end4 .ensures)
     ∙ rewrite-letter (a .s .now) (a .p) (at-byte-at .byte-at .result) (at-byte-at .byte-at .ensures) Letter.B (at-if7 .if7 .taken)
 
-unchanged-requires-2 : tie.Need-unchanged-requires-2
-unchanged-requires-2 c κs = search needs
+is-bell-requires : tie.Need-is-bell-requires
+is-bell-requires c κs = search needs
+
+frozen-requires-4 : tie.Need-frozen-requires-4
+frozen-requires-4 c κs = search needs
 
 returns-8 : tie.Need-returns-8
 returns-8 c =
-    let at-if6 = c .before .before in
+    let at-is-bell = c .before .before in
+    let at-byte-at = at-is-bell .before .before .before .before .before .before .before in
+    let start = at-byte-at .before .before .before in
+    let a = start .args in
+    c .frozen4 .ensures
+    ∙ rewrite-bell (a .s .now) (a .p) (at-byte-at .byte-at .result) (at-byte-at .byte-at .ensures)
+    (sym (at-is-bell .is-bell .ensures) ∙ c .before .if8 .taken)
+
+unchanged-requires-2 : tie.Need-unchanged-requires-2
+unchanged-requires-2 c κs = search needs
+
+returns-9 : tie.Need-returns-9
+returns-9 c =
+    let at-bell = c .before in
+    let at-if7 = at-bell .before .before in
+    let at-if6 = at-if7 .before in
     let at-if5 = at-if6 .before in
     let at-if4 = at-if5 .before in
     let at-if3 = at-if4 .before in
@@ -148,7 +166,8 @@ returns-8 c =
       no-H = at-if4 .if4 .left;
       no-A = at-if6 .if6 .left;
       no-I = at-if5 .if5 .left;
-      no-B = c .before .if7 .left;
+      no-B = at-if7 .if7 .left;
+      no-bell = sym (at-bell .before .is-bell .ensures) ∙ at-bell .if8 .left;
     } in
     c .unchanged2 .ensures ∙ rewrite-others (a .s .now) (a .p) (at-byte-at .byte-at .result) (at-byte-at .byte-at .ensures) other
 
@@ -179,5 +198,8 @@ rewrite-at-spec =
     part-end-requires-4
     pair-at-requires
     returns-7
+    is-bell-requires
+    frozen-requires-4
+    returns-8
     unchanged-requires-2
-    returns-8)
+    returns-9)

@@ -4,7 +4,7 @@ use mathlib.Core.Path.{refl, _∙_, ap}
 use mathlib.Core.Bool.{false}
 use mathlib.Core.List.{List, _∷_, append-nil}
 use Rattle.slices.specs.Same.{same}
-use Rattle.rules.specs.declared.Rule.the-variants.{J, R, H, A, F, I, B, S, Unknown}
+use Rattle.rules.specs.declared.Rule.the-variants.{J, R, H, A, F, I, B, S, K, Unknown}
 use Rattle.fields.specs.Texts.{textAt}
 use Rattle.rules.proofs.Named.{builds-by}
 use borrow.Author.Needs.{needs}
@@ -61,6 +61,12 @@ is-join-requires-8 c κs = search needs
 
 enum-told-9 : tie.Need-enum-told-9
 enum-told-9 c = search needs
+
+is-bell-text-requires : tie.Need-is-bell-text-requires
+is-bell-text-requires c κs = search needs
+
+enum-told-10 : tie.Need-enum-told-10
+enum-told-10 c = search needs
 
 returns : tie.Need-returns
 returns c =
@@ -123,10 +129,17 @@ returns-8 c =
 
 returns-9 : tie.Need-returns-9
 returns-9 c =
+    let start = c .before .before .before .before in
+    builds-by (start .args .rule) K (textAt (start .args .term) (start .args .file .now))
+    (textAt (start .args .first) (start .args .file .now)) (textAt (start .args .second) (start .args .file .now)) (c .is-bell-text .result)
+    (c .before .enum-told9 .given .1) (c .is-bell-text .ensures)
+
+returns-10 : tie.Need-returns-10
+returns-10 c =
     let start = c .before .before .before in
     builds-by (start .args .rule) Unknown (textAt (start .args .term) (start .args .file .now))
     (textAt (start .args .first) (start .args .file .now)) (textAt (start .args .second) (start .args .file .now)) false
-    (c .enum-told9 .given .1) refl
+    (c .enum-told10 .given .1) refl
 
 pub builds-spec : {M : Type 1} → statement M
 builds-spec =
@@ -149,6 +162,8 @@ builds-spec =
     enum-told-8
     is-join-requires-8
     enum-told-9
+    is-bell-text-requires
+    enum-told-10
     returns
     returns-2
     returns-3
@@ -157,4 +172,5 @@ builds-spec =
     returns-6
     returns-7
     returns-8
-    returns-9)
+    returns-9
+    returns-10)

@@ -42,7 +42,13 @@ returns-8 c =
 
 returns-9 : tie.Need-returns-9
 returns-9 c =
-    let at-if5 = c .before .before .before in
+    let start = c .before .before .before .before .before .before .before .before .before in
+    named Name.K (start .args .b) (c .if9 .taken)
+
+returns-10 : tie.Need-returns-10
+returns-10 c =
+    let at-if6 = c .before .before .before in
+    let at-if5 = at-if6 .before in
     let at-if4 = at-if5 .before in
     let at-if3 = at-if4 .before in
     let at-if2 = at-if3 .before in
@@ -50,7 +56,7 @@ returns-9 c =
     let start = at-if1 .before in
     unnamed (start .args .b)
     (other (start .args .b) (at-if1 .if1 .left) (at-if2 .if2 .left) (at-if3 .if3 .left) (at-if4 .if4 .left) (at-if5 .if5 .left)
-    (c .before .before .if6 .left) (c .before .if7 .left) (c .if8 .left))
+    (at-if6 .if6 .left) (c .before .before .if7 .left) (c .before .if8 .left) (c .if9 .left))
 
 pub rule-named-spec : {M : Type 1} → statement M
 rule-named-spec =
@@ -64,4 +70,5 @@ rule-named-spec =
     returns-6
     returns-7
     returns-8
-    returns-9)
+    returns-9
+    returns-10)

@@ -9,7 +9,8 @@ use harness::subject::Controller;
 use harness::suite::Suite;
 use harness::wrong::{bugs, Wrong};
 use harness::{
-    check_tests, compare_tests, deep, finish_tests, huge, match_tests, read_tests, step_tests, threads,
+    check_tests, compare_tests, deep, finish_tests, huge, match_tests, read_tests, small_tests, step_tests,
+    threads,
 };
 
 /// What was written by hand: quick, and enough to see most of the bugs that are planted.
@@ -31,6 +32,8 @@ fn predicted(suite: &mut Suite, subject: impl Controller + Copy) {
     read_tests::predicted(suite, "engine", subject);
     step_tests::predicted(suite, "engine", subject);
     finish_tests::predicted(suite, "engine", subject);
+    small_tests::predicted(suite, "engine", subject);
+    small_tests::largest(suite, "engine", subject);
     finish_tests::long(suite, "engine", subject, finish_tests::MILLION_STEPS);
     compare_tests::predicted(suite, "engine", subject);
     check_tests::predicted(suite, "engine", subject);

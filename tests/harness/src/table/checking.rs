@@ -23,6 +23,8 @@ fn raw(name: &str, file: Vec<u8>, reply: &str) -> Row {
 
 pub const J: &str = "*a1 J a J - -";
 pub const I: &str = "1 I 1 I - -";
+/// Bell one in the empty context.
+pub const K: &str = "1 1 b K - -";
 
 pub fn rows() -> Vec<Row> {
     let groups = [
@@ -39,6 +41,10 @@ pub fn rows() -> Vec<Row> {
         instances_of_a(),
         instances_of_b(),
         instances_of_s(),
+        instances_of_k(),
+        fields_of_k(),
+        derivations_with_bells(),
+        bells_applied(),
         orders(),
         large(),
     ];
@@ -135,7 +141,11 @@ fn rule_fields() -> Vec<Row> {
         row(&["1 I 1 S - -"], "16@1"),
         row(&["1 I 1 . - -"], "16@1"),
         row(&["1 I 1 - - -"], "16@1"),
-        row(&["1 I 1 K - -"], "16@1"),
+        row(&["1 I 1 k - -"], "16@1"),
+        row(&["1 I 1 1 - -"], "16@1"),
+        row(&["1 I 1 E - -"], "16@1"),
+        row(&["1 I 1 T - -"], "16@1"),
+        row(&["1 I 1 L - -"], "16@1"),
         raw("a NUL as the rule", b"1\tI\t1\t\0\t-\t-\n".to_vec(), "16@1"),
     ]
 }
@@ -335,6 +345,145 @@ fn instances_of_s() -> Vec<Row> {
     ]
 }
 
+/// Rule K.
+fn instances_of_k() -> Vec<Row> {
+    let mut rows = vec![
+        row(&[K], "accepted 1"),
+        row(&["*a1 1 b K - -"], "accepted 1"),
+        row(&["*b1 1 b K - -"], "accepted 1"),
+        row(&["*a*>ab*>>abc1 T b K - -"], "accepted 1"),
+        row(&[K, K, K], "accepted 3"),
+        row(&["1 1 a K - -"], "18@1"),
+        row(&["1 1 c K - -"], "18@1"),
+        row(&["1 1 z K - -"], "18@1"),
+        row(&["*a1 1 a K - -"], "18@1"),
+        row(&["1 1 1 K - -"], "18@1"),
+        row(&["1 1 >bb K - -"], "18@1"),
+        row(&["1 1 >ab K - -"], "18@1"),
+        row(&["1 1 *b1 K - -"], "18@1"),
+        row(&["*b1 1 *b1 K - -"], "18@1"),
+        row(&["1 J b K - -"], "18@1"),
+        row(&["*b1 J b K - -"], "18@1"),
+        row(&["1 I b K - -"], "18@1"),
+        row(&["1 I 1 K - -"], "18@1"),
+        row(&["1 R1 b K - -"], "18@1"),
+        row(&["1 H1J b K - -"], "18@1"),
+        row(&["1 A11 b K - -"], "18@1"),
+        row(&["1 B1I b K - -"], "18@1"),
+        row(&["1 .1J b K - -"], "18@1"),
+        row(&["1 .BJI1 b K - -"], "18@1"),
+        row(&["1 1 b J - -"], "18@1"),
+        row(&["*b1 1 b J - -"], "18@1"),
+        row(&["1 1 b I - -"], "18@1"),
+        row(&["1 1 1 I - -"], "18@1"),
+    ];
+    for k in "1234567890ET".chars() {
+        rows.push(row(&[&format!("1 {k} b K - -")], "accepted 1"));
+        rows.push(row(&[&format!("*a*b1 {k} b K - -")], "accepted 1"));
+        rows.push(row(&[&format!("1 {k} a K - -")], "18@1"));
+    }
+    rows
+}
+
+/// Lines of rule K at fault before their instance is: fields, rule letters and premises.
+fn fields_of_k() -> Vec<Row> {
+    let mut rows = vec![
+        row(&["1 11 b K - -"], "15@1"),
+        row(&["1 10 b K - -"], "15@1"),
+        row(&["1 K b K - -"], "15@1"),
+        row(&["1 b b K - -"], "15@1"),
+        row(&["1 e b K - -"], "15@1"),
+        row(&["1 t b K - -"], "15@1"),
+        row(&["1 : b K - -"], "15@1"),
+        row(&["1 / b K - -"], "15@1"),
+        row(&["1  b K - -"], "15@1"),
+        row(&["*11 1 b K - -"], "15@1"),
+        row(&["*21 1 b K - -"], "15@1"),
+        row(&["*b2 1 b K - -"], "15@1"),
+        row(&["b 1 b K - -"], "15@1"),
+        row(&["1 1 >b1 K - -"], "15@1"),
+        row(&["1 1 bb K - -"], "15@1"),
+        row(&["1 1 K K - -"], "15@1"),
+        row(&["1 1 B K - -"], "15@1"),
+        row(&["1 1 b k - -"], "16@1"),
+        row(&["1 1 b KK - -"], "16@1"),
+        row(&["1 1 b 1 - -"], "16@1"),
+        row(&["1 1 b  - -"], "16@1"),
+        row(&["1 1 b K 1 -"], "17@1"),
+        row(&["1 1 b K - 1"], "17@1"),
+        row(&["1 1 b K 1 1"], "17@1"),
+        row(&["1 1 b K 0 -"], "17@1"),
+        row(&["1 1 b K  -"], "17@1"),
+        row(&["1 1 b K - -\r"], "17@1"),
+        row(&["1 1 a K 1 -"], "17@1"),
+        row(&[K, "1 1 b K 1 -"], "17@2"),
+        row(&[K, "1 1 b K - 1"], "17@2"),
+        row(&[K, "1 1 b K 1 1"], "17@2"),
+        row(&[K, "1 J a K 1 1"], "17@2"),
+        row(&["1 1 b K -"], "14@1"),
+        row(&["1 1 b K - - -"], "14@1"),
+    ];
+    for k in "234567890ET".chars() {
+        rows.push(row(&[&format!("{k} 1 b K - -")], "15@1"));
+        rows.push(row(&[&format!("1 1 {k} K - -")], "15@1"));
+    }
+    rows
+}
+
+/// Bells under each of the other rules, over: 1 and 4 bells, 2 and 5 identities, 3 a pair.
+fn derivations_with_bells() -> Vec<Row> {
+    let with = |last: &[&str], reply: &str| {
+        let lines = [&[K, I, "1 B1I *b1 B 1 2", "*b1 T b K - -", "*b1 I 1 I - -"][..], last].concat();
+        row(&lines, reply)
+    };
+    vec![
+        with(&["1 .B1IT b s 3 4"], "accepted 6"),
+        with(&["1 .B1IT b s 3 1"], "18@6"),
+        with(&["1 .B1IT a s 3 4"], "18@6"),
+        with(&["1 .B1I1 b s 3 4"], "18@6"),
+        with(&["1 AIT >bb A 2 4"], "accepted 6"),
+        with(&["1 AIT >ab A 2 4"], "18@6"),
+        with(&["1 AI1 >bb A 2 1"], "18@6"),
+        with(&["1 A1T >bb A 1 4"], "18@6"),
+        with(&["1 AIT >bb A 2 4", "1 .AIT1 b f 6 1"], "accepted 7"),
+        with(&["1 AIT >bb A 2 4", "1 HAIT1 b H 6 1"], "accepted 7"),
+        with(&["1 AIT >bb A 2 4", "1 .AIT1 b s 6 1"], "18@7"),
+        with(&["1 AIT >bb A 2 4", "1 .AIT1 >bb f 6 1"], "18@7"),
+        with(&["*b1 R1 b R 1 -"], "accepted 6"),
+        with(&["*>ab1 R1 b R 1 -"], "accepted 6"),
+        with(&["1 R1 b R 1 -"], "18@6"),
+        with(&["*b1 RT b R 4 -"], "18@6"),
+        with(&["*a*b1 RT b R 4 -"], "accepted 6"),
+        with(&["1 B1B1I *b*b1 B 1 3"], "accepted 6"),
+        with(&["1 B1I *a1 B 1 2"], "18@6"),
+        with(&["1 BI1 *b1 B 2 1"], "18@6"),
+        with(&["1 .I1 b s 2 1"], "accepted 6"),
+        with(&["*b1 .IT b s 5 4"], "18@6"),
+        with(&["*b1 .I1 b s 5 1"], "accepted 6"),
+        with(&["*b1 J b J - -", "1 .B1IJ b s 3 6"], "accepted 7"),
+        with(&["1 AIT >bb A 2 4", "1 .AIT1 b f 6 1", "1 .B1IT b s 3 4", "1 T b K - -"], "accepted 9"),
+        with(&["*b1 B1I *b1 B 1 2"], "18@6"),
+        with(&["*b1 BTI *b1 B 4 5", "1 .B1IBTI *b1 s 3 6"], "accepted 7"),
+    ]
+}
+
+/// A bell applied has no type, nor has its frozen application: each claim is 18.
+fn bells_applied() -> Vec<Row> {
+    let mut rows = vec![];
+    for kind in ["a", "b", "1", ">ab", "*b1"] {
+        for last in [".1J f", ".1J s", "H1J H", ".1J A", ".1J B", "H1J f", ".1J H"] {
+            let (term, rule) = last.split_once(' ').expect("a term and a rule");
+            let line = |first, second| format!("*a1 {term} {kind} {rule} {first} {second}");
+            rows.push(row(&["*a1 1 b K - -", J, &line(1, 2)], "18@3"));
+            rows.push(row(&["*a1 1 b K - -", J, &line(2, 1)], "18@3"));
+        }
+        rows.push(row(&[&format!("*a1 .1J {kind} K - -")], "18@1"));
+    }
+    rows.push(row(&["*a1 1 >ab K - -", J, "*a1 .1J b f 1 2"], "18@1"));
+    rows.push(row(&["*a1 1 b K - -", J, "*a1 .1J b f 1 -"], "17@3"));
+    rows
+}
+
 /// The lowest bad line, and in it the first of 14 to 18.
 fn orders() -> Vec<Row> {
     vec![
@@ -347,6 +496,10 @@ fn orders() -> Vec<Row> {
         row(&["1 J a s 1 1"], "17@1"),
         row(&["1 J a I - -"], "18@1"),
         row(&[I, "1 I 1 x 7 7", "x"], "16@2"),
+        row(&[K, "1 1 a K - -", "1 1 b K 1 -"], "18@2"),
+        row(&[K, "1 1 b K 1 -", "1 1 a K - -"], "17@2"),
+        row(&[K, "1 K a K 1 -"], "15@2"),
+        row(&[K, "1 1 a k 1 -"], "16@2"),
     ]
 }
 
@@ -360,6 +513,11 @@ fn wide_context(types: usize) -> Vec<u8> {
     [&repeated("*a", types)[..], b"1\tJ\ta\tJ\t-\t-\n"].concat()
 }
 
+/// A bell in a context of `types` atoms, of 2 `types` + 12 bytes.
+fn bell_in_wide_context(types: usize) -> Vec<u8> {
+    [&repeated("*a", types)[..], b"1\tE\tb\tK\t-\t-\n"].concat()
+}
+
 /// Files at the limit of 65,536 bytes, with fields as large as that.
 fn large() -> Vec<Row> {
     let left = |k: usize| [repeated(">", k), repeated("a", k + 1)].concat();
@@ -371,6 +529,10 @@ fn large() -> Vec<Row> {
     vec![
         raw("a context of 32,762 atoms, 65,536 bytes", wide_context(32_762), "accepted 1"),
         raw("65,537 bytes", over, "10@0"),
+        raw("a bell in a context of 32,762 atoms, 65,536 bytes", bell_in_wide_context(32_762), "accepted 1"),
+        raw("1,024 bells", repeated("1\t0\tb\tK\t-\t-\n", 1_024), "accepted 1024"),
+        raw("a term of 65,501 letters, the last a bell", deep_term(&[&r_j[..65_500], b"T"].concat()), "18@1"),
+        raw("a bell and 65,500 letters behind it", deep_term(&[b"T", &r_j[..65_500]].concat()), "15@1"),
         raw("a type nested 16,000 deep to the left", deep_type(left(16_000)), "accepted 1"),
         raw("a type nested 16,000 deep to the right", deep_type(right(16_000)), "accepted 1"),
         raw("a term of 65,501 letters", deep_term(&r_j), "18@1"),

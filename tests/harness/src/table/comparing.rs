@@ -29,7 +29,7 @@ fn refused(terms: Terms, areas: [usize; 2], work: usize, fuel: u64, reply: &'sta
 }
 
 pub fn rows() -> Vec<Row> {
-    [answers(), refusals()].into_iter().flatten().collect()
+    [answers(), bells(), refusals()].into_iter().flatten().collect()
 }
 
 fn answers() -> Vec<Row> {
@@ -49,6 +49,31 @@ fn answers() -> Vec<Row> {
         row(["J", ".BII.JRJ"], [1, 11], 11, 1_000_000, "undecided", ["J", ".BIIHJRJ"]),
         row(["J", ".BII.JRJ"], [1, 12], 12, 1_000_000, "same", ["J", "J"]),
         row([".BIIABJIRJ", "ABIIRJ"], [30, 6], 100, 10, "same", ["ABIIRJ", "ABIIRJ"]),
+    ]
+}
+
+/// Results with bells in them.
+fn bells() -> Vec<Row> {
+    vec![
+        ample(["1", "1"], 0, "same", ["1", "1"]),
+        ample(["1", "2"], 0, "different", ["1", "2"]),
+        ample(["E", "T"], 0, "different", ["E", "T"]),
+        ample(["0", "J"], 0, "different", ["0", "J"]),
+        ample(["I", "1"], 0, "different", ["I", "1"]),
+        ample(["1", ".BJI1"], 1, "same", ["1", "1"]),
+        ample(["1", ".BJI1"], 0, "undecided", ["1", ".BJI1"]),
+        ample([".AI1J", ".I1"], 2, "same", ["1", "1"]),
+        ample([".AI1J", ".I1"], 1, "undecided", [".BJI1", "1"]),
+        ample([".1J", "H1J"], 1, "same", ["H1J", "H1J"]),
+        ample([".1J", ".2J"], 1, "different", ["H1J", "H2J"]),
+        ample([".1T", ".T1"], 1, "different", ["H1T", "HT1"]),
+        ample([".BJI.1T", ".1T"], 5, "same", ["H1T", "H1T"]),
+        ample(["BEB0I", "BEB9I"], 0, "different", ["BEB0I", "BEB9I"]),
+        row([".BJI.1T", "T"], [10, 1], 10, 100, "undecided", [".BJIH1T", "T"]),
+        refused(["1K", "1"], [3, 5], 5, 5, "7@1"),
+        refused(["1", "HK"], [3, 5], 5, 5, "5@1"),
+        refused(["1", "H1"], [3, 5], 5, 5, "6@2"),
+        refused(["K", "12"], [3, 5], 5, 5, "5@0"),
     ]
 }
 

@@ -41,8 +41,12 @@ pub fn examples() -> Vec<Row> {
 pub const EXAMPLE_2_RULES: [(u8, &str); 6] =
     [(1, ".BIIHJRJ"), (8, "..BIIJ.BIIRJ"), (6, ".I.BIIRJ"), (5, ".BIIRJ"), (7, ".IJ"), (5, "J")];
 
-/// Runs at the edges of each outcome, and their neighbours.
 pub fn rows() -> Vec<Row> {
+    [edges(), bells(), ends_of_bells()].into_iter().flatten().collect()
+}
+
+/// Runs at the edges of each outcome, and their neighbours.
+fn edges() -> Vec<Row> {
     vec![
         row(".BII.JRJ", 11, 0, "spent 0", ".BII.JRJ"),
         row(".BII.JRJ", 11, 1, "spent 1", ".BIIHJRJ"),
@@ -65,6 +69,52 @@ pub fn rows() -> Vec<Row> {
         row(".IJ", 3, 0, "spent 0", ".IJ"),
         row("R.I.IJ", 6, 1, "spent 1", "R.IJ"),
         row("R.I.IJ", 6, 2, "finished 2", "RJ"),
+    ]
+}
+
+/// Runs with bells in them; rules 12 and 13 are among the steps.
+fn bells() -> Vec<Row> {
+    vec![
+        row("1", 1, 0, "finished 0", "1"),
+        row("T", 1, 1_000_000, "finished 0", "T"),
+        row(".1J", 3, 1, "finished 1", "H1J"),
+        row(".1J", 3, 0, "spent 0", ".1J"),
+        row(".BJI1", 5, 1, "finished 1", "1"),
+        row(".BJI1", 5, 0, "spent 0", ".BJI1"),
+        row(".AI1J", 5, 100, "finished 2", "1"),
+        row(".AI1J", 5, 1, "spent 1", ".BJI1"),
+        row(".AIJ1", 5, 100, "finished 2", "1"),
+        row(".I.BJIE", 7, 100, "finished 2", "E"),
+        row(".1.2.3J", 7, 100, "finished 3", "H1H2H3J"),
+        row(".1.2.3J", 7, 2, "spent 2", "H1H2.3J"),
+        row("...123J", 7, 100, "finished 3", "HHH123J"),
+        row("...123J", 7, 1, "spent 1", "..H123J"),
+        row("A.1J.BJIT", 9, 100, "finished 2", "AH1JT"),
+        row(".B1I.AIHJJAIHJJ", 15, 0, "spent 0", ".B1I.AIHJJAIHJJ"),
+        row("J1", 2, 9, "7@1", ""),
+        row(".1K", 3, 9, "5@2", ""),
+        row("H1", 3, 9, "6@2", ""),
+    ]
+}
+
+/// Longer runs on bells, at the edges of fuel and room.
+fn ends_of_bells() -> Vec<Row> {
+    vec![
+        // Rules 12, 8, 13, 12, 13.
+        row(".BJI.1T", 11, 100, "finished 5", "H1T"),
+        row(".BJI.1T", 11, 4, "spent 4", "H1.BJIT"),
+        row(".BJI.1T", 11, 3, "spent 3", ".1.BJIT"),
+        row(".BJI.1T", 11, 2, "spent 2", "..BJI1.BJIT"),
+        row(".BJI.1T", 10, 100, "no room 1", ".BJIH1T"),
+        // Rules 4, 8, 7, 6, 12, 6.
+        row(".ABTIHRJJ1", 16, 100, "finished 6", "HT1"),
+        row(".ABTIHRJJ1", 15, 100, "no room 1", ".B1BTIHRJJ"),
+        // Rules 11, 13, 11, 13, 10.
+        row(".BJIB1B2I", 13, 100, "finished 5", "B1B2I"),
+        row(".BJIB1B2I", 12, 100, "no room 0", ".BJIB1B2I"),
+        // Three bells in another order: rules 11, 7, 7, 6, 11, 7, 6, 11, 6, 10.
+        row(".B1B2B3IBRRJBRJBJI", AMPLE, 100, "finished 10", "B3B2B1I"),
+        row(".B1B2B3IBRRJBRJBJI", AMPLE, 4, "spent 4", "B3.B1B2B3IBRJBJI"),
     ]
 }
 
@@ -155,6 +205,12 @@ pub fn long_rows() -> Vec<Row> {
         identities(8_000),
         left_identities(8_000),
         frozen(8_000),
+        struck(8_191),
+        left_struck(2_000),
+        replaced(4_095),
+        looked_up(3_999),
+        filled(16_373),
+        not_filled(16_374),
     ]
 }
 
@@ -179,4 +235,46 @@ fn frozen(k: usize) -> Row {
 
 fn ran(name: String, term: Vec<u8>, steps: usize, after: Vec<u8>) -> Row {
     Row { name, area: term.len(), term, fuel: 1_000_000, reply: format!("finished {steps}"), after }
+}
+
+/// (`.1`)^k `T`: rule 12 k times.
+fn struck(k: usize) -> Row {
+    let (term, result) = (joined(&[&repeated(".1", k), b"T"]), joined(&[&repeated("H1", k), b"T"]));
+    ran(format!("{k} bells on the right"), term, k, result)
+}
+
+/// `.`^k `0`^(k+1): rule 12 once, then rule 3.
+fn left_struck(k: usize) -> Row {
+    let (term, result) = (repeated(".", k), repeated("H", k));
+    let zeros = repeated("0", k + 1);
+    ran(format!("{k} bells on the left"), joined(&[&term, &zeros]), k, joined(&[&result, &zeros]))
+}
+
+/// (`.BJI`)^k `E`: rule 13 k times, at the innermost first.
+fn replaced(k: usize) -> Row {
+    ran(format!("{k} pairs before a bell"), joined(&[&repeated(".BJI", k), b"E"]), k, b"E".to_vec())
+}
+
+/// The last of k + 1 bells behind one another, by its index: rule 7 k times, then rule 6.
+fn looked_up(k: usize) -> Row {
+    let term = joined(&[b".", &repeated("B1", k), b"BTI", &repeated("R", k), b"J"]);
+    ran(format!("the last of {} bells", k + 1), term, k + 1, b"T".to_vec())
+}
+
+/// `.BIIH1R`^k`T`, of k + 7 letters, in the largest area: rule 8 makes it larger by 4.
+fn filled(k: usize) -> Row {
+    Row {
+        name: format!("rule 8 on bells among {} letters, one step", k + 7),
+        term: joined(&[b".BIIH1", &repeated("R", k), b"T"]),
+        area: 16_384,
+        fuel: 1,
+        reply: "spent 1".to_string(),
+        after: joined(&[b"..BII1.BII", &repeated("R", k), b"T"]),
+    }
+}
+
+/// The same with one letter more than there is room for.
+fn not_filled(k: usize) -> Row {
+    let full = filled(k);
+    Row { reply: "no room 0".to_string(), after: full.term.clone(), ..full }
 }

@@ -1,6 +1,6 @@
 //! Matching: two files; `match`, `no match` or `number@line`.
 
-use super::checking::{file, I, J};
+use super::checking::{file, I, J, K};
 use crate::terms::repeated;
 
 pub struct Row {
@@ -20,7 +20,7 @@ fn raw(name: &'static str, first: &[u8], second: &[u8], reply: &'static str) -> 
 const OPEN_I: &str = "*a1 I 1 I - -";
 
 pub fn rows() -> Vec<Row> {
-    [matches(), refusals()].into_iter().flatten().collect()
+    [matches(), bells(), refusals()].into_iter().flatten().collect()
 }
 
 fn matches() -> Vec<Row> {
@@ -36,6 +36,23 @@ fn matches() -> Vec<Row> {
         row("first lines equal, last lines not", &[J, I], &[J], "no match"),
         row("a longer type", &["*>aa1 J >aa J - -"], &["*>ab1 J >ab J - -"], "no match"),
         row("a context one entry longer", &["*a1 J a J - -"], &["*a*a1 J a J - -"], "no match"),
+    ]
+}
+
+/// Claims of the type that bells have.
+fn bells() -> Vec<Row> {
+    let (in_b, index) = ("*b1 T b K - -", "*b1 J b J - -");
+    let looked_up = [K, I, "1 B1I *b1 B 1 2", in_b, "1 .B1IT b s 3 4"];
+    vec![
+        row("one bell", &[K], &[K], "match"),
+        row("two bells", &[K], &["1 T b K - -"], "match"),
+        row("a bell and a term that becomes one", &[K], &looked_up, "match"),
+        row("a bell and an index", &[in_b], &[index], "match"),
+        row("a bell in two contexts", &[K], &[in_b], "no match"),
+        row("a bell and an index of another atom", &["*a1 1 b K - -"], &[J], "no match"),
+        row("a bell and an identity", &[K], &[I], "no match"),
+        row("first a bell of another atom", &["1 1 a K - -"], &[K], "18@1"),
+        row("second a bell with a premise", &[K], &[K, "1 1 b K 1 -"], "17@2"),
     ]
 }
 

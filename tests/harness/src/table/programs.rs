@@ -1,6 +1,6 @@
 //! The two programs: standard input and the one line printed.
 
-use super::checking::{file, I, J};
+use super::checking::{file, I, J, K};
 use crate::terms::{index, repeated};
 
 pub struct Row {
@@ -23,7 +23,7 @@ const SHAPE: &str = "refused\t19\t0";
 
 /// Every row of the finishing program.
 pub fn finish_rows() -> Vec<Row> {
-    [outcomes(), shapes(), numbers(), refusals(), long_inputs()].into_iter().flatten().collect()
+    [outcomes(), bells(), shapes(), numbers(), refusals(), long_inputs()].into_iter().flatten().collect()
 }
 
 fn outcomes() -> Vec<Row> {
@@ -37,6 +37,35 @@ fn outcomes() -> Vec<Row> {
         row("1000000\t16384\tJ\n", "finished\t0\tJ"),
         row("9\t30\t.BIIABJIRJ\n", "finished\t4\tABIIRJ"),
         row("9\t30\t.B.AIHJJAIHJJI.II\n", "finished\t2\tI"),
+    ]
+}
+
+/// Terms with bells; a bell stands where a number does not, and a number where no bell does.
+fn bells() -> Vec<Row> {
+    vec![
+        row("0\t1\t1\n", "finished\t0\t1"),
+        row("1\t1\t1\n", "finished\t0\t1"),
+        row("6\t12\t0\n", "finished\t0\t0"),
+        row("6\t12\tE\n", "finished\t0\tE"),
+        row("6\t12\tT\n", "finished\t0\tT"),
+        row("6\t12\t.1J\n", "finished\t1\tH1J"),
+        row("0\t12\t.1J\n", "spent\t0\t.1J"),
+        row("6\t12\t.BJI1\n", "finished\t1\t1"),
+        row("6\t12\t.AI1J\n", "finished\t2\t1"),
+        row("1\t12\t.AI1J\n", "spent\t1\t.BJI1"),
+        row("6\t11\t.BJI.1T\n", "finished\t5\tH1T"),
+        row("6\t10\t.BJI.1T\n", "no room\t1\t.BJIH1T"),
+        row("99\t99\t.B1B2B3IBRRJBRJBJI\n", "finished\t10\tB3B2B1I"),
+        row("12\t12\t12\n", "refused\t7\t1"),
+        row("6\t12\tJ1\n", "refused\t7\t1"),
+        row("6\t12\tK\n", "refused\t5\t0"),
+        row("6\t12\t.1:\n", "refused\t5\t2"),
+        row("6\t12\tH1\n", "refused\t6\t2"),
+        row("6\t1\t12\n", "refused\t3\t0"),
+        row("E\t12\tJ\n", SHAPE),
+        row("6\tT\tJ\n", SHAPE),
+        row("6\t12\t1\t1\n", SHAPE),
+        row("1\t1\n", SHAPE),
     ]
 }
 
@@ -155,6 +184,19 @@ fn long_inputs() -> Vec<Row> {
         named("16,385 letters", line("6\t16384\t", index(16_384), "\n"), "refused\t3\t0"),
         whole_area("16,384 letters", index(16_383), 0, index(16_383)),
         whole_area("16,384 letters, an index in a pair", line(".B", index(16_379), "IJ"), 1, index(16_379)),
+        whole_area(
+            "16,384 letters, the last a bell",
+            line("", repeated("R", 16_383), "0"),
+            0,
+            line("", repeated("R", 16_383), "0"),
+        ),
+        whole_area("16,384 letters, a pair before a bell", line(".B", index(16_379), "IT"), 1, b"T".to_vec()),
+        whole_area(
+            "16,383 letters, 8,191 bells",
+            line("", repeated(".1", 8_191), "E"),
+            8_191,
+            line("", repeated("H1", 8_191), "E"),
+        ),
         whole_area("16,383 letters, 8,191 identities", line("", repeated(".I", 8_191), "J"), 8_191, index(0)),
     ]
 }
@@ -189,6 +231,19 @@ pub fn check_rows() -> Vec<Row> {
         named("1,025 line feeds", repeated("\n", 1_025), "refused\t13\t0"),
         named("1,024 line feeds", repeated("\n", 1_024), "refused\t14\t1"),
         named("1,024 good lines", good(), "accepted\t1024"),
+        named("a bell", file(&[K]), "accepted\t1"),
+        named("a bell of another type", file(&["1 1 a K - -"]), "refused\t18\t1"),
+        named("a bell with a premise", file(&["1 1 b K 1 -"]), "refused\t17\t1"),
+        named("two bells in one field", file(&["1 11 b K - -"]), "refused\t15\t1"),
+        named("K as a term", file(&["1 K b K - -"]), "refused\t15\t1"),
+        named("a small k as the rule", file(&["1 1 b k - -"]), "refused\t16\t1"),
+        named(
+            "a bell looked up",
+            file(&[K, I, "1 B1I *b1 B 1 2", "*b1 J b J - -", "1 .B1IJ b s 3 4"]),
+            "accepted\t5",
+        ),
+        named("a bell applied", file(&["*a1 1 b K - -", J, "*a1 .1J b f 1 2"]), "refused\t18\t3"),
+        named("1,024 bells", repeated("1\tT\tb\tK\t-\t-\n", 1_024), "accepted\t1024"),
         named("one good line", b"1\tI\t1\tI\t-\t-\n".to_vec(), "accepted\t1"),
         named("a NUL in a field", b"1\t\0\t1\tI\t-\t-\n".to_vec(), "refused\t15\t1"),
         named("a carriage return", b"1\tI\t1\tI\t-\t-\r\n".to_vec(), "refused\t17\t1"),

@@ -24,7 +24,9 @@ fn stepped(term: &str, size: usize, reply: &str, after: &str) -> Row {
 }
 
 pub fn rows() -> Vec<Row> {
-    [refusals(), order_of_refusals(), rules(), order(), rooms()].into_iter().flatten().collect()
+    let groups =
+        [refusals(), order_of_refusals(), rules(), order(), rooms(), rules_of_bells(), bells(), rooms_of_bells()];
+    groups.into_iter().flatten().collect()
 }
 
 fn refusals() -> Vec<Row> {
@@ -63,7 +65,7 @@ fn order_of_refusals() -> Vec<Row> {
     ]
 }
 
-/// Each of the eleven rules at the term itself.
+/// Rules 1 to 11 at the term itself.
 fn rules() -> Vec<Row> {
     vec![
         stepped(".JI", 3, "rule 1", "HJI"),
@@ -123,5 +125,93 @@ fn rooms() -> Vec<Row> {
         stepped(".BRJBJIHJJ", 17, "rule 8", "..BRJBJIJ.BRJBJIJ"),
         stepped("R.BIIHJJ", 11, "no room", "R.BIIHJJ"),
         stepped("R.BIIHJJ", 12, "rule 8", "R..BIIJ.BIIJ"),
+    ]
+}
+
+/// Rules 12 and 13 at the term itself, for each of the twelve bells.
+fn rules_of_bells() -> Vec<Row> {
+    let mut rows = vec![];
+    for k in "1234567890ET".chars() {
+        rows.push(stepped(&format!(".{k}J"), 3, "rule 12", &format!("H{k}J")));
+        rows.push(stepped(&format!(".{k}{k}"), 4, "rule 12", &format!("H{k}{k}")));
+        rows.push(stepped(&format!(".BJI{k}"), 5, "rule 13", &k.to_string()));
+        rows.push(stepped(&format!(".B{k}{k}{k}"), 6, "rule 13", &k.to_string()));
+    }
+    rows
+}
+
+/// Bells in each place of each rule, and where the step is.
+fn bells() -> Vec<Row> {
+    vec![
+        stepped("1", 1, "normal", "1"),
+        stepped("H1T", 5, "normal", "H1T"),
+        stepped("BEB0I", 5, "normal", "BEB0I"),
+        stepped("A1R2", 4, "normal", "A1R2"),
+        stepped(".1.II", 5, "rule 12", "H1.II"),
+        stepped("H1.II", 5, "rule 5", "H1I"),
+        stepped("B1.II", 5, "rule 5", "B1I"),
+        stepped("A1.II", 5, "rule 5", "A1I"),
+        stepped("AI.1J", 5, "rule 12", "AIH1J"),
+        stepped("AI.BJI1", 7, "rule 13", "AI1"),
+        stepped("R.1J", 4, "rule 12", "RH1J"),
+        stepped("H.1J.2J", 7, "rule 12", "HH1J.2J"),
+        stepped(".BJI.1J", 7, "rule 12", ".BJIH1J"),
+        stepped(".BJI.I1", 7, "rule 5", ".BJI1"),
+        stepped("..1JI", 5, "rule 12", ".H1JI"),
+        stepped(".H1JI", 5, "rule 3", "HH1JI"),
+        stepped("..BJI1J", 7, "rule 13", ".1J"),
+        stepped("..I1.II", 7, "rule 5", ".1.II"),
+        stepped(".1.BII.II", 9, "rule 12", "H1.BII.II"),
+        stepped(".TB.II.II", 9, "rule 12", "HTB.II.II"),
+        stepped(".B.II.III", 9, "rule 10", "I"),
+        stepped(".B.II.IIT", 9, "rule 13", "T"),
+        stepped(".B1I1", 5, "rule 13", "1"),
+        stepped(".B1I2", 5, "rule 13", "2"),
+        stepped(".B12T", 5, "rule 13", "T"),
+        stepped(".B11J", 5, "rule 6", "1"),
+        stepped(".B12J", 5, "rule 6", "1"),
+        stepped(".B12RE", 6, "rule 7", ".2E"),
+        stepped(".B12I", 5, "rule 10", "I"),
+        stepped(".B12A34", 7, "rule 9", "A.B1234"),
+        stepped(".J1", 3, "rule 1", "HJ1"),
+        stepped(".R1T", 4, "rule 2", "HR1T"),
+        stepped(".H1J0", 5, "rule 3", "HH1J0"),
+        stepped(".A123", 5, "rule 4", ".B312"),
+        stepped(".I1", 3, "rule 5", "1"),
+        stepped(".AI1J", 5, "rule 4", ".BJI1"),
+        stepped(".1AIJ", 5, "rule 12", "H1AIJ"),
+        stepped(".0BJI", 5, "rule 12", "H0BJI"),
+        stepped("J1", 2, "7@1", ""),
+        stepped(".1K", 3, "5@2", ""),
+        stepped(".1", 2, "6@2", ""),
+    ]
+}
+
+/// Rules 12 and 13 need no room; 8 and 11 on bells need as much as on other terms.
+fn rooms_of_bells() -> Vec<Row> {
+    let bytes = |start: &str, letters: usize, end: &str| [start, &"R".repeat(letters), end].concat();
+    let largest = |start: &str, end: &str, reply: &str, after: &str| {
+        let letters = 16_384 - start.len() - end.len();
+        let area = bytes(start, letters, end).into_bytes();
+        let name = format!("{start} and {letters} R and {end} is {reply}");
+        let after = after.replace('+', &"R".repeat(letters));
+        lent(&name, &area, 16_384, &vec![b'y'; 16_384], reply, &after)
+    };
+    vec![
+        stepped(".BJIH1T", 10, "no room", ".BJIH1T"),
+        stepped(".BJIH1T", 11, "rule 8", "..BJI1.BJIT"),
+        stepped(".BJIB1T", 10, "no room", ".BJIB1T"),
+        stepped(".BJIB1T", 11, "rule 11", "B.BJI1.BJIT"),
+        stepped(".B12H34", 10, "no room", ".B12H34"),
+        stepped(".B12H34", 11, "rule 8", "..B123.B124"),
+        lent("a bell, work of 100 bytes", b"TX", 1, &[b'y'; 100], "normal", "T"),
+        lent("rule 12, work of 100 bytes", b".1JX", 3, &[b'y'; 100], "rule 12", "H1J"),
+        lent("rule 13, work of 100 bytes", b".BJI1X", 5, &[b'y'; 100], "rule 13", "1"),
+        largest(".1", "T", "rule 12", "H1+T"),
+        largest(".B", "1IT", "rule 13", "T"),
+        largest(".B1", "ET", "rule 13", "T"),
+        largest("H1", ".TJ", "rule 12", "H1+HTJ"),
+        largest(".BIIH1", "T", "no room", ".BIIH1+T"),
+        largest("", "0", "normal", "+0"),
     ]
 }
