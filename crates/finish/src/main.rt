@@ -16,7 +16,8 @@ fn answer(failed: bool, line: Line, term: &mut [u8], work: &mut [u8], out: &mut 
     if failed {
         return 0;
     }
-    answering::answer_run(finish_line::asked_for(line), term, work, out)
+    let answered = answering::answer_run(finish_line::asked_for(line), term, work, out);
+    answered.size
 }
 
 fn main() {
