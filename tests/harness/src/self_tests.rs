@@ -43,7 +43,7 @@ fn runs_of_size_3() -> Outcome {
     for (ends, applications) in [(NO_BELLS, 4), (TWO_BELLS, 16), (ALL_BELLS, 196)] {
         let mut steps = 0;
         for term in all_of_size(3, ends) {
-            let (outcome, count) = run(&mut Plain { term }, 20, 10);
+            let (outcome, count) = run(&mut Plain { term }, 20, 10, |_| ());
             equal("outcome", outcome, End::Finished)?;
             steps += count;
         }
@@ -71,7 +71,7 @@ fn every_small_step() -> Outcome {
 /// The text of a finished run's result.
 fn result(term: &Term) -> Option<Vec<u8>> {
     let mut machine = Machine::start(&term.text());
-    let (outcome, _) = run(&mut machine, 4_000, 2_000);
+    let (outcome, _) = run(&mut machine, 4_000, 2_000, |_| ());
     (outcome == End::Finished).then(|| machine.text())
 }
 
