@@ -3,16 +3,18 @@
 use crate::reply::*;
 use second::checking;
 use second::comparing::{self, Lent};
+use second::counting;
 use second::finish_line;
 use second::finishing;
 use second::stepping::{self, Reducer};
 use std::marker::PhantomData;
 
-/// The six functions of `include/controller.h`.
+/// The seven functions of `include/controller.h`.
 pub trait Controller {
     fn read(&self, slice: &[u8]) -> u64;
     fn step(&self, area: &mut [u8], term: usize, work: &mut [u8]) -> u64;
     fn finish(&self, area: &mut [u8], term: usize, work: &mut [u8], fuel: u64) -> u64;
+    fn finish_counted(&self, area: &mut [u8], term: usize, work: &mut [u8], fuel: u64, counts: &mut [u8]) -> u64;
     fn compare(&self, first: Lent, second: Lent, work: &mut [u8], fuel: u64) -> u64;
     fn check(&self, file: &[u8]) -> u64;
     fn match_claims(&self, first: &[u8], second: &[u8]) -> u64;
@@ -58,6 +60,10 @@ impl<R: Reducer> Controller for Second<R> {
 
     fn finish(&self, area: &mut [u8], term: usize, work: &mut [u8], fuel: u64) -> u64 {
         of_run(finishing::finish::<R>(area, term, work, fuel))
+    }
+
+    fn finish_counted(&self, area: &mut [u8], term: usize, work: &mut [u8], fuel: u64, counts: &mut [u8]) -> u64 {
+        of_run(counting::finish_counted::<R>(area, term, work, fuel, counts))
     }
 
     fn compare(&self, first: Lent, second: Lent, work: &mut [u8], fuel: u64) -> u64 {

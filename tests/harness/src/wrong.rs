@@ -168,6 +168,12 @@ impl<C: Controller> Controller for Wrong<C> {
         (self.bug.reply)(reply)
     }
 
+    fn finish_counted(&self, area: &mut [u8], term: usize, work: &mut [u8], fuel: u64, counts: &mut [u8]) -> u64 {
+        let reply = self.subject.finish_counted(area, term, work, fuel, counts);
+        (self.bug.bytes)(reply, area, work);
+        (self.bug.reply)(reply)
+    }
+
     fn compare(&self, first: Lent, second: Lent, work: &mut [u8], fuel: u64) -> u64 {
         (self.bug.reply)(self.subject.compare(first, second, work, fuel))
     }
