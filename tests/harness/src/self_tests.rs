@@ -171,6 +171,7 @@ fn known(suite: &mut Suite) {
     check_tests::known(suite, "second", plain);
     match_tests::known(suite, "second", plain);
     program_tests::known_finishing(suite, "second", plain);
+    program_tests::known_mixing(suite, "second", plain);
     program_tests::known_checking(suite, "second", plain);
     huge::all(suite, "second", plain);
 }
@@ -200,6 +201,7 @@ fn two_reducers(suite: &mut Suite) {
     deep::counts(suite, "fast", fast, predict_counted::<Plain>);
     compare_tests::predicted(suite, "fast", fast);
     program_tests::predicted_finishing(suite, "fast", fast);
+    program_tests::predicted_mixing(suite, "fast", fast);
 }
 
 pub fn all(suite: &mut Suite) {

@@ -20,9 +20,10 @@ pub trait Controller {
     fn match_claims(&self, first: &[u8], second: &[u8]) -> u64;
 }
 
-/// The two programs: what each prints for its input.
+/// The three programs: what each prints for its input.
 pub trait Programs {
     fn finish(&self, input: &[u8]) -> Result<Vec<u8>, String>;
+    fn rule_mix(&self, input: &[u8]) -> Result<Vec<u8>, String>;
     fn check_file(&self, input: &[u8]) -> Result<Vec<u8>, String>;
 }
 
@@ -85,6 +86,10 @@ impl<R: Reducer> Controller for Second<R> {
 impl<R: Reducer> Programs for Second<R> {
     fn finish(&self, input: &[u8]) -> Result<Vec<u8>, String> {
         Ok(finish_line::finish_program::<R>(input))
+    }
+
+    fn rule_mix(&self, input: &[u8]) -> Result<Vec<u8>, String> {
+        Ok(finish_line::rule_mix_program::<R>(input))
     }
 
     fn check_file(&self, input: &[u8]) -> Result<Vec<u8>, String> {
