@@ -25,3 +25,4 @@ pub mod table;
 pub mod terms;
 pub mod threads;
 pub mod wrong;
+pub mod wrong_print;
