@@ -164,12 +164,12 @@ fn taken_up_by_hand(subject: &dyn Controller) -> Outcome {
 
 /// Runs of many steps, worked out by hand; what finishing does on the same calls; runs in several calls.
 pub fn made(suite: &mut Suite, label: &str, subject: impl Controller) {
-    for row in long_rows() {
-        suite.test(&format!("{label} counting: {}", row.name()), || by_hand(&subject, &row));
-    }
     suite.test(&format!("{label} counting: 400 cycles of .AIHJJAIHJJ, byte by byte"), || {
         run_by_hand(&subject, &self_application(400), &CYCLES_400.concat(), SIZE)
     });
+    for row in long_rows() {
+        suite.test(&format!("{label} counting: {}", row.name()), || by_hand(&subject, &row));
+    }
     suite.test(&format!("{label} counting: replies and areas are finishing's"), || finishing_agrees(&subject));
     suite.test(&format!("{label} counting: counts of spent runs taken up add up"), || taken_up_by_hand(&subject));
 }

@@ -143,14 +143,15 @@ pub fn predicted_finishing(suite: &mut Suite, label: &str, subject: impl Program
     });
 }
 
-/// Inputs of rule_mix whose output is written by hand; those of the finishing program, set against it.
+/// Inputs of rule_mix whose output is written by hand; short ones of the finishing program, set against it.
 pub fn known_mixing(suite: &mut Suite, label: &str, subject: impl Programs) {
     for row in mix_rows() {
         let name = format!("{label} rule_mix program: {}", row.name);
         suite.test(&name, || printed(subject.rule_mix(&row.input), &with_line_feed(&row.printed), &row.input));
     }
     suite.test(&format!("{label} rule_mix program: its first line is the finishing program's"), || {
-        finish_rows().iter().try_for_each(|row| mix_of_finish(&subject, &row.input))?;
+        let mut rows = finish_rows().into_iter().filter(|row| row.input.len() <= SHORT);
+        rows.try_for_each(|row| mix_of_finish(&subject, &row.input))?;
         random_lines(53, 100, |line| mix_of_finish(&subject, line))
     });
 }

@@ -25,8 +25,8 @@ fn known(suite: &mut Suite, subject: impl Controller + Copy) {
     read_tests::made(suite, "engine", subject);
     check_tests::made(suite, "engine", subject);
     match_tests::made(suite, "engine", subject);
-    finish_tests::made(suite, "engine", subject);
     count_tests::made(suite, "engine", subject);
+    finish_tests::made(suite, "engine", subject);
 }
 
 /// What the second implementation predicts.

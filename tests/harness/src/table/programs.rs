@@ -315,14 +315,14 @@ fn two_rules(ones: usize, fives: usize, marks: usize) -> Row {
 
 fn long_mixes() -> Vec<Row> {
     let different = all_different().run;
-    let frozen = |letter: &str| line("", repeated(letter, 8_191), &"J".repeat(8_192));
+    let frozen = |letter: &str| line("", repeated(letter, 2_001), &"J".repeat(2_002));
     vec![
         large_mix(&different.name, &different.term, &line("93\t", different.after, ""), &DIFFERENT),
         large_mix(
-            "8,191 applications frozen",
+            "2,001 applications frozen",
             &frozen("."),
-            &line("8191\t", frozen("H"), ""),
-            &[(1, 1, 1), (3, 8_190, 40)],
+            &line("2001\t", frozen("H"), ""),
+            &[(1, 1, 1), (3, 2_000, 40)],
         ),
         two_rules(1, 40, 1),
         two_rules(1, 41, 1),
