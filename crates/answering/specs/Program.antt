@@ -1,4 +1,4 @@
--- The two programs, as functions on the whole of standard input (REQUIREMENTS, Programs): input of another shape than the finishing
+-- The finishing and the checking program, as functions on the whole of standard input (REQUIREMENTS, Programs): input of another shape than the finishing
 -- program's line is refused ahead of finishing's own refusals.
 use Prim.Native.Nat.{ℕ, _-_}
 use mathlib.Core.Bool.{Bool, true, false}
