@@ -32,7 +32,8 @@ use Rattle.answering.proofs.Verdicts.{check-program-length}
 module _ (n m : ℕ) (room : 16384 ≤ n) (work-room : 16384 ≤ m) where
   -- what is made of the line's answer is what is made of the request
   answered :
-      {X : Type 0} (other : X) (of : After → X) (o : Option Wanted) (asked : Asked) (buffer : List ℕ) → Ranged o → Answers (zeros n) o asked buffer →
+      {X : Type 0} (other : X) (of : After → X) (o : Option Wanted) (asked : Asked) (buffer : List ℕ) →
+      Ranged o → Answers (zeros n) o asked buffer →
       made other of asked buffer (zeros m) ≡ requested other of o
   answered other of none asked buffer r e = ap (λ (a : Asked). made other of a buffer (zeros m)) e
   answered other of (some (Wanted.request fuel area term)) asked buffer r (e, kept) =
@@ -46,10 +47,11 @@ module _ (n m : ℕ) (room : 16384 ≤ n) (work-room : 16384 ≤ m) where
   -- what is made of a line, however the input is cut
   pub input-made :
       {X : Type 0} (other : X) (of : After → X) (chunks : List (List ℕ)) →
-      made other of (askedOf (after (zeros n) chunks .line)) (after (zeros n) chunks .buffer) (zeros m) ≡ requested other of (requestOf (inputOf chunks))
+      made other of (askedOf (after (zeros n) chunks .line)) (after (zeros n) chunks .buffer) (zeros m)
+      ≡ requested other of (requestOf (inputOf chunks))
   input-made other of chunks =
-      answered other of (requestOf (inputOf chunks)) (askedOf (after (zeros n) chunks .line)) (after (zeros n) chunks .buffer) (ranged (inputOf chunks))
-      (line-answers (zeros n) chunks)
+      answered other of (requestOf (inputOf chunks)) (askedOf (after (zeros n) chunks .line)) (after (zeros n) chunks .buffer)
+      (ranged (inputOf chunks)) (line-answers (zeros n) chunks)
 
   -- the finishing program prints its definition
   pub finish-prints :

@@ -48,23 +48,27 @@ front-length area term n area′ en kept =
     sym long ∙ sym (ap length (take-at area′ (drop n term) n long))
 
 -- what a call leaves: the printed line, the two buffers, and how often each rule was used
-abbrev pub Leaves : (line term work : List ℕ) (uses : Option (List ℕ)) (out : List ℕ) (n : ℕ) (said : Option (List ℕ)) (term′ work′ out′ : List ℕ) → Type 0
+abbrev pub Leaves :
+    (line term work : List ℕ) (uses : Option (List ℕ)) (out : List ℕ) (n : ℕ) (said : Option (List ℕ)) (term′ work′ out′ : List ℕ) → Type 0
 Leaves line term work uses out n said term′ work′ out′ = Appends 0 line out n out′ × (((term′ ≡ term) × (work′ ≡ work)) × (said ≡ uses))
 
 -- the counts that stand beside an answer
-counts-said : (reply : Reply Unit) (r : Ran) (area work : List ℕ) → someIf (isAnswered reply) (countsOf r) ≡ usesIn (After.after reply r area work)
+counts-said :
+    (reply : Reply Unit) (r : Ran) (area work : List ℕ) →
+    someIf (isAnswered reply) (countsOf r) ≡ usesIn (After.after reply r area work)
 counts-said (Reply.refused number place) r area work = refl
 counts-said (Reply.answered done) r area work = refl
 
 -- a request: finishing in the fronts of the buffers
 pub request-answers :
-    (fuel area len : ℕ) (term work : List ℕ) (n m : ℕ) (reply : Reply Unit) (r : Ran) (area′ work′ out : List ℕ) (k : ℕ) (out′ : List ℕ) (ran : Bool) →
+    (fuel area len : ℕ) (term work : List ℕ) (n m : ℕ) (reply : Reply Unit) (r : Ran) (area′ work′ out : List ℕ) (k : ℕ) (out′ : List ℕ)
+    (ran : Bool) →
     n ≡ min area (length term) → m ≡ min area (length work) → length area′ ≡ length (take n term) →
     After.after reply r area′ work′ ≡ finishingOf (take n term) len (take m work) fuel →
     Appends 0 (replyLine reply r (take n (area′ ++ drop n term))) out k out′ → ran ≡ isAnswered reply →
     Leaves (shownRun (finishedIn fuel area len term work)) (areaIn (finishedIn fuel area len term work) ++ drop area term)
-    (workIn (finishedIn fuel area len term work) ++ drop area work) (usesIn (finishedIn fuel area len term work)) out k (someIf ran (countsOf r))
-    (area′ ++ drop n term) (work′ ++ drop m work) out′
+    (workIn (finishedIn fuel area len term work) ++ drop area work) (usesIn (finishedIn fuel area len term work))
+    out k (someIf ran (countsOf r)) (area′ ++ drop n term) (work′ ++ drop m work) out′
 request-answers fuel area len term work n m reply r area′ work′ out k out′ ran en em kept e printed made =
     let fronts : After.after reply r area′ work′ ≡ finishedIn fuel area len term work =
     e
@@ -85,8 +89,10 @@ request-answers fuel area len term work n m reply r area′ work′ out k out′
 -- what is said of a request is said of what asks for it
 pub asked-answers :
     (asked : Asked) (term work out : List ℕ) (k : ℕ) (said : Option (List ℕ)) (term′ work′ out′ : List ℕ) {other : Asked} → asked ≡ other →
-    Leaves (printedRun other term work) (termAfter other term work) (workAfter other term work) (usesOf other term work) out k said term′ work′ out′ →
-    Leaves (printedRun asked term work) (termAfter asked term work) (workAfter asked term work) (usesOf asked term work) out k said term′ work′ out′
+    Leaves (printedRun other term work) (termAfter other term work) (workAfter other term work) (usesOf other term work)
+    out k said term′ work′ out′ →
+    Leaves (printedRun asked term work) (termAfter asked term work) (workAfter asked term work) (usesOf asked term work)
+    out k said term′ work′ out′
 asked-answers asked term work out k said term′ work′ out′ e (printed, ((left, right), used)) = (
   prints out k out′ (ap (λ (a : Asked). printedRun a term work) (sym e)) printed,
   (

@@ -1,5 +1,5 @@
--- The finishing and the checking program, as functions on the whole of standard input (REQUIREMENTS, Programs): input of another shape than the finishing
--- program's line is refused ahead of finishing's own refusals.
+-- The finishing and the checking program, as functions on the whole of standard input (REQUIREMENTS, Programs): input of another shape
+-- than the finishing program's line is refused ahead of finishing's own refusals.
 use Prim.Native.Nat.{ℕ, _-_}
 use mathlib.Core.Bool.{Bool, true, false}
 use mathlib.Core.List.{List, [], _++_}
@@ -23,7 +23,8 @@ areaWith area bytes = take area bytes ++ replicate (area - length bytes) 0
 -- what is made of a line: of one of another shape, or of finishing's answer to what it asks for
 abbrev pub requested : {X : Type 0} → X → (After → X) → Option Request → X
 requested other answered none = other
-requested other answered (some (Request.request fuel area term)) = answered (finishingOf (areaWith area term) (length term) (replicate area 0) fuel)
+requested other answered (some (Request.request fuel area term)) =
+    answered (finishingOf (areaWith area term) (length term) (replicate area 0) fuel)
 
 abbrev pub requestLine : Option Request → List ℕ
 requestLine asks = requested shapeLine shownRun asks

@@ -8,7 +8,8 @@ ghost use lib.ListN.{length, drop};
 ghost use Rattle.slices.specs.Put.{put, behind};
 ghost use Rattle.admission.specs.Answer.{replyOf};
 ghost use Rattle.answer_lines.specs.Shown.{shownRun};
-ghost use Rattle.answering.specs.Answer.{finishedIn, areaIn, workIn, printedRun, termAfter, workAfter, isAnswered, usesIn, usesOf, usesSaid};
+ghost use Rattle.answering.specs.Answer.{finishedIn, areaIn, workIn, printedRun, termAfter, workAfter};
+ghost use Rattle.answering.specs.Answer.{isAnswered, usesIn, usesOf, usesSaid};
 
 // What was printed: how long the line is, whether there was a run, and how often it used each rule, 0 where there was none.
 pub struct Answered {

@@ -1,5 +1,5 @@
--- How often each rule is used: one use more is one more in that rule's count and in no other, and the counts of a run together are the count of
--- its steps. Carried by: each of the thirteen numbers stands once in the list of them. Assumes nothing.
+-- How often each rule is used: one use more is one more in that rule's count and in no other, and the counts of a run together are the
+-- count of its steps. Carried by: each of the thirteen numbers stands once in the list of them. Assumes nothing.
 use Prim.Native.Nat.{ℕ, suc, _+_, _-_, _≤_}
 use native.Mathlib.Omega.{arith}
 use mathlib.Core.Path.{_≡_, refl, sym, _∙_, ap, subst}
@@ -60,9 +60,12 @@ module _ (used : List ℕ) where
   abbrev bumped : ℕ → List ℕ
   bumped n = set (tally used) (n - 1) (suc (getD (tally used) (n - 1) 0))
 
-  bump : {n : ℕ} → List·Memᴰ n ruleNumbers → map (λ (j : ℕ). cond (eqb j n) (suc (occurrences j used)) (occurrences j used)) ruleNumbers ≡ bumped n
-  bump = each (λ (n : ℕ). map (λ (j : ℕ). cond (eqb j n) (suc (occurrences j used)) (occurrences j used)) ruleNumbers ≡ bumped n) ruleNumbers
-      (search depth 30)
+  -- the same, rule by rule
+  abbrev withOne : ℕ → List ℕ
+  withOne n = map (λ (j : ℕ). cond (eqb j n) (suc (occurrences j used)) (occurrences j used)) ruleNumbers
+
+  bump : {n : ℕ} → List·Memᴰ n ruleNumbers → withOne n ≡ bumped n
+  bump = each (λ (n : ℕ). withOne n ≡ bumped n) ruleNumbers (search depth 30)
 
   -- one use more of a rule is one more in its count and in no other
   pub tally-more : {n : ℕ} → List·Memᴰ n ruleNumbers → tally (used ++ (n ∷ [])) ≡ bumped n
@@ -70,18 +73,19 @@ module _ (used : List ℕ) where
 
 -- ---- together
 
+-- the counts of those numbers together
+abbrev counted : (used numbers : List ℕ) → ℕ
+counted used numbers = total (map (λ (n : ℕ). occurrences n used) numbers)
+
 -- one number in front of a list is counted as often as it stands among the numbers counted
-counted-once :
-    (m : ℕ) (used numbers : List ℕ) →
-    total (map (λ (n : ℕ). occurrences n (m ∷ used)) numbers) ≡ occurrences m numbers + total (map (λ (n : ℕ). occurrences n used) numbers)
-counted-once m used [] = omega arith
-counted-once m used (n ∷ numbers) = go (eqb n m) refl (eqb m n) refl (counted-once m used numbers)
+counted-more : (m : ℕ) (used numbers : List ℕ) → counted (m ∷ used) numbers ≡ occurrences m numbers + counted used numbers
+counted-more m used [] = omega arith
+counted-more m used (n ∷ numbers) = go (eqb n m) refl (eqb m n) refl (counted-more m used numbers)
   where
     go :
-        (b : Bool) → eqb n m ≡ b → (c : Bool) → eqb m n ≡ c →
-        total (map (λ (n : ℕ). occurrences n (m ∷ used)) numbers) ≡ occurrences m numbers + total (map (λ (n : ℕ). occurrences n used) numbers) →
-        cond b (suc (occurrences n used)) (occurrences n used) + total (map (λ (n : ℕ). occurrences n (m ∷ used)) numbers)
-        ≡ cond c (suc (occurrences m numbers)) (occurrences m numbers) + (occurrences n used + total (map (λ (n : ℕ). occurrences n used) numbers))
+        (b : Bool) → eqb n m ≡ b → (c : Bool) → eqb m n ≡ c → counted (m ∷ used) numbers ≡ occurrences m numbers + counted used numbers →
+        cond b (suc (occurrences n used)) (occurrences n used) + counted (m ∷ used) numbers
+        ≡ cond c (suc (occurrences m numbers)) (occurrences m numbers) + (occurrences n used + counted used numbers)
     go true e true f h = omega (arith, h)
     go true e false f h = absurd (eqb-false m n f (sym (eqb-true n m e)))
     go false e true f h = absurd (eqb-false n m e (sym (eqb-true m n f)))
@@ -95,12 +99,16 @@ once = each (λ (n : ℕ). occurrences n ruleNumbers ≡ 1) ruleNumbers (omega a
 tally-total : (used : List ℕ) → ((n : ℕ) → List·Memᴰ n used → List·Memᴰ n ruleNumbers) → total (tally used) ≡ length used
 tally-total [] listed = refl
 tally-total (m ∷ used) listed =
-    omega (arith, counted-once m used ruleNumbers, once (listed m (List·Memᴰ·head refl)), tally-total used (λ n i. listed n (List·Memᴰ·tail i)))
+    let rest = tally-total used (λ n i. listed n (List·Memᴰ·tail i)) in
+    omega (arith, counted-more m used ruleNumbers, once (listed m (List·Memᴰ·head refl)), rest)
 
 -- the numbers in a run's list are rules'
-rules-listed : {fuel area made : ℕ} {t : Term} (r : Run) → Runs fuel area made t r → (n : ℕ) → List·Memᴰ n (rules r) → List·Memᴰ n ruleNumbers
+rules-listed :
+    {fuel area made : ℕ} {t : Term} (r : Run) → Runs fuel area made t r →
+    (n : ℕ) → List·Memᴰ n (rules r) → List·Memᴰ n ruleNumbers
 rules-listed (Run.end o) x n i = absurd (List·Memᴰ·not-nil i)
-rules-listed (Run.then m u r) (Runs.one-step f g a fits rest) n (List·Memᴰ·head e) = subst (λ (k : ℕ). List·Memᴰ k ruleNumbers) (sym e) (change-listed (a .change))
+rules-listed (Run.then m u r) (Runs.one-step f g a fits rest) n (List·Memᴰ·head e) =
+    subst (λ (k : ℕ). List·Memᴰ k ruleNumbers) (sym e) (change-listed (a .change))
 rules-listed (Run.then m u r) (Runs.one-step f g a fits rest) n (List·Memᴰ·tail i) = rules-listed r rest n i
 
 -- the counts of a run together are the count of its steps

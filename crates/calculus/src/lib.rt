@@ -1,4 +1,5 @@
-// What code names of the calculus: its letters, the marks of types, the names of typing rules, how many rules there are, and the limits. The theory is in specs/ and proofs/.
+// What code names of the calculus: its letters, the marks of types, the names of typing rules, how many rules there are, and the
+// limits. The theory is in specs/ and proofs/.
 pub mod letters;
 pub mod marks;
 pub mod names;

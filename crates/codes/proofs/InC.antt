@@ -114,7 +114,8 @@ finish-decoded {area = area} {fuel = fuel} (finish.Call.made t admits) =
     let held : size t ≤ length area = omega (arith, admits .areas .within, held-size (admits .held)) in
     let small : count r < 16777216 = omega (arith, count-fuel fuel (length area) t, admits .fuelled) in
     let fits : size end < 4294967296 = omega (arith, reached-fits fuel (length area) t held, admits .areas .short) in
-    cc (run-decoded (count r) finishing.noUses (size end) small fits (outcome r), ran-decoded (count r) finishing.noUses (size end) small fits (outcome r))
+    let uses = finishing.noUses in
+    cc (run-decoded (count r) uses (size end) small fits (outcome r), ran-decoded (count r) uses (size end) small fits (outcome r))
 
 -- counts of a list that is short enough fit four bytes each
 tally-fits : (used numbers : List ℕ) → length used < wordLimit → Fit (map (λ (n : ℕ). occurrences n used) numbers)
@@ -135,8 +136,10 @@ count-decoded {area = area} {counts = counts} {fuel = fuel} (counted.Call.made t
     let small : count r < 16777216 = omega (arith, count-fuel fuel (length area) t, admits .fuelled) in
     let fits : size end < 4294967296 = omega (arith, reached-fits fuel (length area) t held, admits .areas .short) in
     let left : List ℕ = wordsOf (uses r) ++ drop counting.countsSize counts in
-    let back : countsIn left ≡ uses r = words-back (uses r) (drop counting.countsSize counts) (tally-fits (rules r) ruleNumbers (omega arith)) in
-    cc (run-decoded (count r) (countsIn left) (size end) small fits (outcome r), ran-decoded (count r) (countsIn left) (size end) small fits (outcome r), back)
+    let back : countsIn left ≡ uses r =
+    words-back (uses r) (drop counting.countsSize counts) (tally-fits (rules r) ruleNumbers (omega arith)) in
+    let seen = countsIn left in
+    cc (run-decoded (count r) seen (size end) small fits (outcome r), ran-decoded (count r) seen (size end) small fits (outcome r), back)
 
 compare-decoded :
     {first second work : List ℕ} {len₁ len₂ fuel : ℕ} {after : comparing.After} →

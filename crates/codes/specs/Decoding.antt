@@ -111,9 +111,9 @@ decodedCheck reply = decoded valuePart reply
 abbrev pub decodedMatch : ℕ → Reply Bool
 decodedMatch reply = decoded matchIn reply
 
--- What the caller sees is what the operation answers and leaves, for every call of the seven functions; `controller_finish` shows all but the
--- counts by rule. (What stands in the brackets is what the function leaves, by its contract.) Only reading has a condition: there are fewer
--- than 2 to the 56 bytes.
+-- What the caller sees is what the operation answers and leaves, for every call of the seven functions; `controller_finish` shows all but
+-- the counts by rule. (What stands in the brackets is what the function leaves, by its contract.) Only reading has a condition: there are
+-- fewer than 2 to the 56 bytes.
 pub record InC : Type 0 where
   pub read : (bytes : List ℕ) → length bytes < placeLimit → decodedRead (readNumber (readingOf bytes)) ≡ readingOf bytes
   pub step :

@@ -23,7 +23,9 @@ pub data Call (area : List ℕ) (len : ℕ) (work : List ℕ) (fuel : ℕ) (coun
       (t : Term) → countsSize ≤ length counts → Admits area len work fuel t →
       Call area len work fuel counts (withCounts (ranFrom t (run fuel (length area) t) area work) counts)
 
-pub call : (area : List ℕ) (len : ℕ) (work : List ℕ) (fuel : ℕ) (counts : List ℕ) → Call area len work fuel counts (countingOf area len work fuel counts)
+pub call :
+    (area : List ℕ) (len : ℕ) (work : List ℕ) (fuel : ℕ) (counts : List ℕ) →
+    Call area len work fuel counts (countingOf area len work fuel counts)
 unfolding countingOf
 call area len work fuel counts = go (ltb (length counts) countsSize) refl
   where
@@ -33,6 +35,8 @@ call area len work fuel counts = go (ltb (length counts) countsSize) refl
     long room (finish.Call.refused found) = Call.refused found
     long room (finish.Call.made t admits) = Call.made t room admits
 
-    go : (short : Bool) → ltb (length counts) countsSize ≡ short → Call area len work fuel counts (unlessShort short area len work fuel counts)
+    go :
+        (short : Bool) → ltb (length counts) countsSize ≡ short →
+        Call area len work fuel counts (unlessShort short area len work fuel counts)
     go true e = Call.refused (Refuses.at-zero (List·Memᴰ·tail (List·Memᴰ·head refl)) refl)
     go false e = long (ltb-false (length counts) countsSize e) (finish.call area len work fuel)

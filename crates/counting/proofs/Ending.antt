@@ -38,7 +38,9 @@ thirteen (finish.Call.made t admits) = refl
 
 module _ (area : List ℕ) (len : ℕ) (work : List ℕ) (fuel : ℕ) (counts : List ℕ) where
   -- fewer bytes than the counts take
-  pub counts-short : (r : finishing.Ran) → r ≡ finishing.noRun → length counts < 52 → After.after (Reply.refused 2 0) r area work counts ≡ countingOf area len work fuel counts
+  pub counts-short :
+      (r : finishing.Ran) → r ≡ finishing.noRun → length counts < 52 →
+      After.after (Reply.refused 2 0) r area work counts ≡ countingOf area len work fuel counts
   unfolding countingOf
   counts-short r e h =
       ap (λ (x : finishing.Ran). After.after (Reply.refused 2 0) x area work counts) e
@@ -56,12 +58,14 @@ module _ (area : List ℕ) (len : ℕ) (work : List ℕ) (fuel : ℕ) (counts : 
           ∙ sym (ap (λ (b : Bool). unlessShort b area len work fuel counts) (le-ltb (length counts) countsSize enough))
 
       -- what it refuses
-      pub counts-refused : OneOf (0 ∷ 1 ∷ 2 ∷ 3 ∷ 4 ∷ []) (tagOf the-type a) → After.after (admission.replyOf a) r area′ work′ counts ≡ countingOf area len work fuel counts
+      pub counts-refused :
+          OneOf (0 ∷ 1 ∷ 2 ∷ 3 ∷ 4 ∷ []) (tagOf the-type a) →
+          After.after (admission.replyOf a) r area′ work′ counts ≡ countingOf area len work fuel counts
       counts-refused k =
           let (n, p, e) = reply-refused a k in
-          let said : After.after (admission.replyOf a) r area′ work′ counts ≡ withCounts (finishing.After.after (admission.replyOf a) r area′ work′) counts =
-          ap (λ (x : Reply Unit). After.after x r area′ work′ counts) e ∙ sym (ap (λ (x : Reply Unit). withCounts (finishing.After.after x r area′ work′) counts) e) in
-          said ∙ counts-long
+          ap (λ (x : Reply Unit). After.after x r area′ work′ counts) e
+          ∙ sym (ap (λ (x : Reply Unit). withCounts (finishing.After.after x r area′ work′) counts) e)
+          ∙ counts-long
 
       -- what it answers, with the counts written
       pub counts-made :
@@ -69,7 +73,8 @@ module _ (area : List ℕ) (len : ℕ) (work : List ℕ) (fuel : ℕ) (counts : 
           After.after (admission.replyOf a) r area′ work′ counts′ ≡ countingOf area len work fuel counts
       counts-made counts′ k wrote =
           let all : length (countsOf r) ≡ length ruleNumbers =
-          subst (λ (x : finishing.After). length (countsOf (recordIn x)) ≡ length ruleNumbers) (sym ended) (thirteen (finish.call area len work fuel)) in
+          subst (λ (x : finishing.After). length (countsOf (recordIn x)) ≡ length ruleNumbers) (sym ended)
+          (thirteen (finish.call area len work fuel)) in
           let size : length (wordsOf (countsOf r)) ≡ 52 = omega (arith, words-length (countsOf r)) in
           let behind : 0 + length (wordsOf (countsOf r)) ≡ countsSize = omega arith in
           let front : counts′ ≡ wordsOf (countsOf r) ++ drop countsSize counts =

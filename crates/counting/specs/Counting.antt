@@ -19,7 +19,8 @@ pub data After : Type 0 where
 
 -- finishing's answer; unless it refuses, the counts of the record stand in front of what stood behind them
 abbrev pub withCounts : finishing.After → (counts : List ℕ) → After
-withCounts (finishing.After.after (Reply.refused number place) r area work) counts = After.after (Reply.refused number place) r area work counts
+withCounts (finishing.After.after (Reply.refused number place) r area work) counts =
+    After.after (Reply.refused number place) r area work counts
 withCounts (finishing.After.after (Reply.answered done) r area work) counts =
     After.after (Reply.answered done) r area work (wordsOf (finishing.countsOf r) ++ drop countsSize counts)
 

@@ -25,13 +25,15 @@ use Rattle.finishing.specs.Loop.{Ready, Reaches}
 module _ (area : List ℕ) (len : ℕ) (work : List ℕ) (fuel : ℕ) (a : Admission) (said : replyOf a ≡ admission (admitted area len work fuel)) where
   -- a refusal
   pub after-refused :
-      (o : Outcome) (made : ℕ) (counts : List ℕ) (size′ : ℕ) → Ran.ran o made counts size′ ≡ noRun → OneOf (0 ∷ 1 ∷ 2 ∷ 3 ∷ 4 ∷ []) (tagOf the-type a) →
+      (o : Outcome) (made : ℕ) (counts : List ℕ) (size′ : ℕ) → Ran.ran o made counts size′ ≡ noRun →
+      OneOf (0 ∷ 1 ∷ 2 ∷ 3 ∷ 4 ∷ []) (tagOf the-type a) →
       (After.after (replyOf a) (Ran.ran o made counts size′) area work ≡ finishingOf area len work fuel) × (made ≤ fuel)
   unfolding finishingOf
   after-refused o made counts size′ none k =
       let (n, p, e, f) = said-refused area len work fuel a said k in
       let no-steps : made ≡ 0 = cc in (
-        ap₂ (λ (r : Reply Unit) (x : Ran). After.after r x area work) e none ∙ sym (ap (λ (x : Reply Term). finishAdmitted x area work fuel) f),
+        ap₂ (λ (r : Reply Unit) (x : Ran). After.after r x area work) e none
+            ∙ sym (ap (λ (x : Reply Term). finishAdmitted x area work fuel) f),
         omega arith,
       )
 

@@ -93,12 +93,14 @@ at-start fuel area len work ready =
       used = [];
       counted = refl;
       tallied = refl;
-      passes = λ t h. subst (Passes fuel (length area) t []) (held-unique area len t (ready .term) h (ready .held)) (passes-start fuel (length area) t);
+      passes =
+          λ t h. subst (Passes fuel (length area) t []) (held-unique area len t (ready .term) h (ready .held)) (passes-start fuel (length area) t);
     }
 
 -- the record of a run that has come to its end, beside the term that the area holds
 reaches :
-    {fuel len : ℕ} {area counts : List ℕ} {size′ made : ℕ} {used : List ℕ} {t u : Term} (o : Outcome) → length used ≡ made → counts ≡ tally used →
+    {fuel len : ℕ} {area counts : List ℕ} {size′ made : ℕ} {used : List ℕ} {t u : Term} (o : Outcome) →
+    length used ≡ made → counts ≡ tally used →
     Comes fuel len t used u o → Holds area size′ u → Reaches t (run fuel len t) (Ran.ran o made counts size′) area
 reaches {fuel} {len} {area} {counts} {size′} {made} {used} {t} {u} o counted tallied come held =
     let end = reached t (run fuel len t) in
@@ -128,7 +130,8 @@ module _
       at-count {rule} few e =
           let listed = step-listed (done e) in
           let (first, last) = listed-range listed in
-          let so-far : getD counts (rule - 1) 0 ≡ occurrences rule (at .used) = ap (λ (l : List ℕ). getD l (rule - 1) 0) (at .tallied) ∙ tally-at (at .used) listed in
+          let so-far : getD counts (rule - 1) 0 ≡ occurrences rule (at .used) =
+          ap (λ (l : List ℕ). getD l (rule - 1) 0) (at .tallied) ∙ tally-at (at .used) listed in
           record { first = first; last = last; few = omega (arith, so-far, occurrences-few rule (at .used), at .counted) }
 
       -- a step keeps the invariant
@@ -160,7 +163,9 @@ module _
           Reaches t (run fuel (length area₀) t) (Ran.ran Outcome.no-room made counts size) area′
       at-no-room k t h =
           let (n, u, e, larger, held) = answered-no-room r k now in
-          reaches Outcome.no-room (at .counted) (at .tallied) (comes-no-room (at .passes t h) (omega (arith, at .counted)) e (omega (arith, at .long))) (subst (λ (m : ℕ). Holds area′ m (at .ready .term)) (sym (held-size (at .ready .held))) held)
+          reaches Outcome.no-room (at .counted) (at .tallied)
+          (comes-no-room (at .passes t h) (omega (arith, at .counted)) e (omega (arith, at .long)))
+          (subst (λ (m : ℕ). Holds area′ m (at .ready .term)) (sym (held-size (at .ready .held))) held)
 
       -- nothing comes next
       pub at-normal :
@@ -168,7 +173,8 @@ module _
           (t : Term) → Holds area₀ len t → Reaches t (run fuel (length area₀) t) (Ran.ran Outcome.finished made counts size) area′
       at-normal j k t h =
           let (e, held) = answered-normal r j k now in
-          reaches Outcome.finished (at .counted) (at .tallied) (comes-finished (at .passes t h) e) (subst (λ (m : ℕ). Holds area′ m (at .ready .term)) (sym (held-size (at .ready .held))) held)
+          reaches Outcome.finished (at .counted) (at .tallied) (comes-finished (at .passes t h) e)
+          (subst (λ (m : ℕ). Holds area′ m (at .ready .term)) (sym (held-size (at .ready .held))) held)
 
     -- ---- with no fuel left
 
@@ -179,7 +185,8 @@ module _
     at-stop all e t h =
         let (n, u, f) = stop-next (at .ready .term) (ap hasStop (sym (at .ready .held .written)) ∙ sym e) in
         let passes = at .passes t h in
-        reaches Outcome.spent (at .counted) (at .tallied) (comes-spent passes (omega (arith, passes .bounded, at .counted)) f) (at .ready .held)
+        reaches Outcome.spent (at .counted) (at .tallied) (comes-spent passes (omega (arith, passes .bounded, at .counted)) f)
+        (at .ready .held)
 
     -- none: finished
     pub at-no-stop :

@@ -29,14 +29,16 @@ mix-of OtherShape term work = refl
 mix-of (Request fuel area length) term work = lines-of (finishedIn fuel area length term work)
 
 module _
-    (asked : Asked) (term work out : List ℕ) (ran : Bool) (counts : List ℕ) (used : someIf ran counts ≡ usesOf asked term work) (n : ℕ) (out₁ : List ℕ)
+    (asked : Asked) (term work out : List ℕ) (ran : Bool) (counts : List ℕ) (used : someIf ran counts ≡ usesOf asked term work)
+    (n : ℕ) (out₁ : List ℕ)
     (printed : (out₁ ≡ put 0 (printedRun asked term work) out) × (n ≡ behind 0 (printedRun asked term work) out))
   where
     -- the line, and what is left to put behind it
     line-put : (b : Bool) → ran ≡ b → putAll (rowsIf (someIf b counts)) n out₁ ≡ putAll (printedMix asked term work) 0 out
     line-put b e =
         ap₂ (putAll (rowsIf (someIf b counts))) (printed .1) (printed .0)
-        ∙ ap (λ (o : Option (List ℕ)). putAll (printedRun asked term work ∷ rowsIf o) 0 out) (ap (λ (c : Bool). someIf c counts) (sym e) ∙ used)
+        ∙ ap (λ (o : Option (List ℕ)). putAll (printedRun asked term work ∷ rowsIf o) 0 out)
+        (ap (λ (c : Bool). someIf c counts) (sym e) ∙ used)
         ∙ sym (ap (λ (lines : List (List ℕ)). putAll lines 0 out) (mix-of asked term work))
 
     -- no run: the line alone

@@ -1,5 +1,5 @@
--- The program's definition on the whole input: what `answer_mix` puts for a line that was fed the input, in chunks cut anywhere, with zeroed
--- buffers, is `mixProgram` of the input. Assumes nothing.
+-- The program's definition on the whole input: what `answer_mix` puts for a line that was fed the input, in chunks cut anywhere, with
+-- zeroed buffers, is `mixProgram` of the input. Assumes nothing.
 use Prim.Native.Nat.{ℕ, _+_, _≤_, _<_}
 use native.Mathlib.Omega.{arith}
 use mathlib.Core.Path.{_≡_, refl, _∙_, ap}
@@ -75,5 +75,5 @@ module _ (n m : ℕ) (room : 16384 ≤ n) (work-room : 16384 ≤ m) where
   mix-writes true chunks out h = refl
   mix-writes false chunks out h =
       let same = input-made n m room work-room (shapeLine ∷ []) mixLines chunks in
-      put-all (printed chunks) 0 out (omega (arith, ap (λ (lines : List (List ℕ)). length (joined lines)) same, request-length (requestOf (inputOf chunks)))) .front
-      ∙ mix-prints chunks
+      let long = ap (λ (lines : List (List ℕ)). length (joined lines)) same in
+      put-all (printed chunks) 0 out (omega (arith, long, request-length (requestOf (inputOf chunks)))) .front ∙ mix-prints chunks

@@ -6,7 +6,8 @@ ghost use Rattle.mix_lines.specs.PutAll.{putAll};
 ghost use Rattle.mix_answers.specs.Mix.{printedMix};
 
 // The finishing program's line for what its input asks for and, unless that is refused, a line for each rule; `term` holds the term's
-// bytes, and both buffers serve as areas. The lines are put into `out` one behind the other, each where it fits, and the answer is their length.
+// bytes, and both buffers serve as areas. The lines are put into `out` one behind the other, each where it fits, and the answer is the
+// length of all.
 pub fn answer_mix(asked: Asked, term: &mut [u8], work: &mut [u8], out: &mut [u8]) -> usize
     ensures { λ r. ⌜ (r, now (out .exit)) ≡ putAll (printedMix asked (now (term .entry)) (now (work .entry))) 0 (now (out .entry)) ⌝ }
     ensures lent { λ _. ⌜ (now (term .exit) ≡ termAfter asked (now (term .entry)) (now (work .entry)))

@@ -17,7 +17,8 @@ bar-whole less = mul-add-div {m = suc less} (omega arith) 40 less ∙ ap (λ (k 
 
 pub bar-most : (count largest : ℕ) → count ≤ largest → barWidth count largest ≤ barLimit
 bar-most count zero h = omega arith
-bar-most count (suc less) h = omega (arith, div-lt-iff-lt-mul {k = suc less} {x = count * 40 + less} {y = 41} (omega arith) .1 (omega arith))
+bar-most count (suc less) h =
+    omega (arith, div-lt-iff-lt-mul {k = suc less} {x = count * 40 + less} {y = 41} (omega arith) .1 (omega arith))
 
 pub bar-none : (count largest : ℕ) → count ≤ largest → (barWidth count largest ≡ 0) ↔ (count ≡ 0)
 bar-none count zero h = (λ e. omega arith, λ e. refl)

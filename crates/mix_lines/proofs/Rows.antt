@@ -49,7 +49,9 @@ row-cut rule count largest at out cut {end} {out′} e =
 -- ---- the largest
 
 module _ (counts : List ℕ) where
-  pub largest-next : (i most most′ : ℕ) → i < length counts → most′ ≡ max most (getD counts i 0) → max most (largestOf (drop i counts)) ≡ max most′ (largestOf (drop (i + 1) counts))
+  pub largest-next :
+      (i most most′ : ℕ) → i < length counts → most′ ≡ max most (getD counts i 0) →
+      max most (largestOf (drop i counts)) ≡ max most′ (largestOf (drop (i + 1) counts))
   largest-next i most most′ h e =
       let rest = largestOf (drop (suc i) counts) in
       let here : largestOf (drop i counts) ≡ max (getD counts i 0) rest = ap largestOf (drop-cons counts i 0 h) in

@@ -40,7 +40,8 @@ row-length largest rule count few low =
     )
 
 pub rows-length :
-    (largest rule : ℕ) (counts : List ℕ) → rule + length counts ≤ 10000000 → Low counts → length (joined (rowsFrom largest rule counts)) ≤ 57 * length counts
+    (largest rule : ℕ) (counts : List ℕ) → rule + length counts ≤ 10000000 → Low counts →
+    length (joined (rowsFrom largest rule counts)) ≤ 57 * length counts
 rows-length largest rule [] few low = omega arith
 rows-length largest rule (count ∷ counts) few low =
     let rest = joined (rowsFrom largest (suc rule) counts) in

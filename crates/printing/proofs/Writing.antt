@@ -45,7 +45,8 @@ written (field ∷ other ∷ fields) {at} {end} {dst} {dst′} room (Fields.next
 
 -- fields that have room are appended as one line
 pub row-appended-at :
-    (fields : List (List ℕ)) (at : ℕ) (dst : List ℕ) {end : ℕ} {dst′ : List ℕ} → at + total fields ≤ length dst → Fields fields at dst end dst′ →
+    (fields : List (List ℕ)) (at : ℕ) (dst : List ℕ) {end : ℕ} {dst′ : List ℕ} →
+    at + total fields ≤ length dst → Fields fields at dst end dst′ →
     Appends at (rowOf fields) dst end dst′
 row-appended-at fields at dst room e = appended at (rowOf fields) dst (written fields room e)
 

@@ -95,7 +95,8 @@ count-refused (counted.Call.refused m) = (m, refl, refl, refl, refl)
 count-ran :
     {area work counts area′ work′ counts′ : List ℕ} {len fuel n s : ℕ} {k : List ℕ} {o : Outcome} →
     counted.Call area len work fuel counts (counting.After.after (Reply.answered tt) (finishing.Ran.ran o n k s) area′ work′ counts′) →
-    RanTo area len work fuel o n k s area′ work′ × (counting.countsSize ≤ length counts) × (counts′ ≡ wordsOf k ++ drop counting.countsSize counts)
+    RanTo area len work fuel o n k s area′ work′ ×
+    (counting.countsSize ≤ length counts) × (counts′ ≡ wordsOf k ++ drop counting.countsSize counts)
 count-ran {area = area} (counted.Call.made t room admits) = (finish-ran (finish.Call.made t admits), room, refl)
 
 compare-ran :
@@ -136,7 +137,8 @@ reached-text {s = s} r =
 -- the results of two finished runs are equal exactly when their first terms turn into each other
 results-of :
     {area₁ work₁ area₁′ work₁′ area₂ work₂ area₂′ work₂′ : List ℕ} {len₁ fuel₁ n₁ s₁ len₂ fuel₂ n₂ s₂ : ℕ} {k₁ k₂ : List ℕ}
-    (r₁ : RanTo area₁ len₁ work₁ fuel₁ Outcome.finished n₁ k₁ s₁ area₁′ work₁′) (r₂ : RanTo area₂ len₂ work₂ fuel₂ Outcome.finished n₂ k₂ s₂ area₂′ work₂′) →
+    (r₁ : RanTo area₁ len₁ work₁ fuel₁ Outcome.finished n₁ k₁ s₁ area₁′ work₁′)
+    (r₂ : RanTo area₂ len₂ work₂ fuel₂ Outcome.finished n₂ k₂ s₂ area₂′ work₂′) →
     (take s₁ area₁′ ≡ take s₂ area₂′) ↔ Turn (r₁ .start) (r₂ .start)
 results-of r₁ r₂ =
     let exactly = results-exactly (r₁ .run-of) (r₂ .run-of) (r₁ .ends) (r₂ .ends) in

@@ -60,18 +60,20 @@ pub record SteppedTo (area : List ℕ) (len : ℕ) (work : List ℕ) (rule s : �
   pub work-cleared : work′ ≡ cleared work
 
 -- what finishing did: a run, of which it answers the outcome, the count, and how often each rule was used, which together make the count
-pub record RanTo (area : List ℕ) (len : ℕ) (work : List ℕ) (fuel : ℕ) (o : Outcome) (n : ℕ) (k : List ℕ) (s : ℕ) (area′ work′ : List ℕ) : Type 0 where
-  pub start : Term
-  pub run : Run
-  pub held : Holds area len start
-  pub run-of : RunOf area len work fuel start run
-  pub ends : outcome run ≡ o
-  pub counted : count run ≡ n
-  pub used : uses run ≡ k
-  pub together : total k ≡ n
-  pub sized : size (reached start run) ≡ s
-  pub area-holds : area′ ≡ holding (reached start run) area
-  pub work-cleared : work′ ≡ cleared work
+pub record RanTo
+    (area : List ℕ) (len : ℕ) (work : List ℕ) (fuel : ℕ) (o : Outcome) (n : ℕ) (k : List ℕ) (s : ℕ) (area′ work′ : List ℕ) : Type 0
+  where
+    pub start : Term
+    pub run : Run
+    pub held : Holds area len start
+    pub run-of : RunOf area len work fuel start run
+    pub ends : outcome run ≡ o
+    pub counted : count run ≡ n
+    pub used : uses run ≡ k
+    pub together : total k ≡ n
+    pub sized : size (reached start run) ≡ s
+    pub area-holds : area′ ≡ holding (reached start run) area
+    pub work-cleared : work′ ≡ cleared work
 
 -- what comparing did: a run of each term, whose results it compares
 pub record ComparedTo
@@ -139,7 +141,8 @@ pub record Demands : Type 0 where
   pub counted :
       (area work counts area′ work′ counts′ : List ℕ) (len fuel : ℕ) (o : Outcome) (n : ℕ) (k : List ℕ) (s : ℕ) →
       counting.countingOf area len work fuel counts ≡ counting.After.after (Reply.answered tt) (finishing.Ran.ran o n k s) area′ work′ counts′ →
-      RanTo area len work fuel o n k s area′ work′ × (counting.countsSize ≤ length counts) × (counts′ ≡ wordsOf k ++ drop counting.countsSize counts)
+      RanTo area len work fuel o n k s area′ work′ ×
+      (counting.countsSize ≤ length counts) × (counts′ ≡ wordsOf k ++ drop counting.countsSize counts)
   pub compared :
       (first second work first′ second′ work′ : List ℕ) (len₁ len₂ fuel : ℕ) (c : comparing.Compared) →
       comparing.comparingOf first len₁ second len₂ work fuel ≡ comparing.After.after (Reply.answered c) first′ second′ work′ →

@@ -1,4 +1,5 @@
--- The proved examples (REQUIREMENTS, Examples), twelve of the base, nine with bells and seven with counts, as rows of one table over the operations' definitions.
+-- The proved examples (REQUIREMENTS, Examples), twelve of the base, nine with bells and seven with counts, as rows of one table over the
+-- operations' definitions.
 -- proofs/Examples.antt has the proof that covers it. Every expected reply was written by hand from the paper; the rules of examples 1 and 3 to 8, which it does not give, were
 -- worked out by hand from figure 1.
 use Prim.Native.Nat.{ℕ, _-_}
@@ -25,7 +26,8 @@ pub data Call : Type 0 where
   read : (bytes : String) → Call
   check : (file : String) → Call
 
--- what it answers; of a run also the rules used, in order, and the bytes of the term now in the area; of one with counts what the counts' bytes say
+-- what it answers; of a run also the rules used, in order, and the bytes of the term now in the area; of one with counts what the counts'
+-- bytes say
 pub data Answer : Type 0 where
   ran : Outcome → (count : ℕ) (rules : List ℕ) (term : List ℕ) → Answer
   mixed : (byRule : List ℕ) → Answer

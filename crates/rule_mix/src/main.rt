@@ -1,4 +1,5 @@
-// The program for the mix of rules: the finishing program's line from standard input, its answer and a line for each rule to standard output.
+// The program for the mix of rules: the finishing program's line from standard input, its answer and a line for each rule to standard
+// output.
 // Where standard input cannot be read or standard output cannot be written, one line on standard error says so.
 use line_states::Line;
 ghost use mathlib.Core.Path.{_≡_};
@@ -8,7 +9,8 @@ ghost use Rattle.mix_answers.specs.Mix.{printedMix, noneFailed};
 
 // The lines for standard output, put at the start of `out`: none where standard input could not be read.
 fn answer(failed: bool, line: Line, term: &mut [u8], work: &mut [u8], out: &mut [u8]) -> usize
-    ensures { λ r. ⌜ (r, now (out .exit)) ≡ putAll (noneFailed failed (printedMix (askedOf line) (now (term .entry)) (now (work .entry)))) 0 (now (out .entry)) ⌝ }
+    ensures { λ r. ⌜ (r, now (out .exit))
+        ≡ putAll (noneFailed failed (printedMix (askedOf line) (now (term .entry)) (now (work .entry)))) 0 (now (out .entry)) ⌝ }
 {
     if failed {
         return 0;

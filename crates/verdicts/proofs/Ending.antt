@@ -43,7 +43,8 @@ finishes area len work fuel t e reply o made byRule size′ area′ work′ is =
     let r = run fuel (length area) t in
     let end = reached t r in
     let zeros : List ℕ = replicate (length area - size end) 0 in
-    let whole : Finish.after reply (Ran.ran o made byRule size′) area′ work′ ≡ Finish.after (Reply.answered tt) (recordOf t r) (holding end area) (cleared work) =
+    let whole :
+    Finish.after reply (Ran.ran o made byRule size′) area′ work′ ≡ Finish.after (Reply.answered tt) (recordOf t r) (holding end area) (cleared work) =
     is ∙ ap (λ (x : Reply Term). finishAdmitted x area work fuel) e in
     let ends : o ≡ outcome r = cc in
     let sized : size′ ≡ size end = cc in
@@ -107,7 +108,8 @@ module _ (first : List ℕ) (len₁ : ℕ) (second : List ℕ) (len₂ : ℕ) (w
       -- both runs
       pub after-both :
           tagOf the-type b ≡ 5 →
-          (reply₁ reply₂ : Reply Unit) (o₁ o₂ : Outcome) (made₁ made₂ : ℕ) (byRule₁ byRule₂ : List ℕ) (size₁ size₂ : ℕ) (first′ second′ work₁ work₂ : List ℕ) (answer : Reply Compared) →
+          (reply₁ reply₂ : Reply Unit) (o₁ o₂ : Outcome) (made₁ made₂ : ℕ) (byRule₁ byRule₂ : List ℕ) (size₁ size₂ : ℕ)
+          (first′ second′ work₁ work₂ : List ℕ) (answer : Reply Compared) →
           Finish.after reply₁ (Ran.ran o₁ made₁ byRule₁ size₁) first′ work₁ ≡ finishingOf first len₁ work fuel →
           Finish.after reply₂ (Ran.ran o₂ made₂ byRule₂ size₂) second′ work₂ ≡ finishingOf second len₂ work₁ fuel →
           answer ≡ Reply.answered (verdict o₁ o₂ (part 0 size₁ first′) (part 0 size₂ second′)) →
@@ -120,7 +122,8 @@ module _ (first : List ℕ) (len₁ : ℕ) (second : List ℕ) (len₂ : ℕ) (w
           let s = run fuel (length second) u in
           let one = finishes first len₁ work fuel t e reply₁ o₁ made₁ byRule₁ size₁ first′ work₁ is₁ in
           let wide : length work₁ ≡ length work = ap length (one .clear) ∙ length-replicate (length work) 0 in
-          let two = finishes second len₂ work₁ fuel u (admitted-work second len₂ work work₁ fuel wide ∙ f) reply₂ o₂ made₂ byRule₂ size₂ second′ work₂ is₂ in
+          let held = admitted-work second len₂ work work₁ fuel wide ∙ f in
+          let two = finishes second len₂ work₁ fuel u held reply₂ o₂ made₂ byRule₂ size₂ second′ work₂ is₂ in
           let clear : work₂ ≡ cleared work = two .clear ∙ ap (λ (n : ℕ). replicate n 0) wide in
           let answered : answer ≡ Reply.answered (verdict (outcome r) (outcome s) (text (reached t r)) (text (reached u s))) =
           says

@@ -19,13 +19,19 @@ words-length [] = refl
 words-length (n ∷ numbers) = omega (arith, words-length numbers)
 
 -- one number more
-pub words-more : (i : ℕ) (numbers : List ℕ) → i < length numbers → wordsOf (take (i + 1) numbers) ≡ wordsOf (take i numbers) ++ wordOf (getD numbers i 0)
+pub words-more :
+    (i : ℕ) (numbers : List ℕ) → i < length numbers →
+    wordsOf (take (i + 1) numbers) ≡ wordsOf (take i numbers) ++ wordOf (getD numbers i 0)
 words-more i numbers h = ap (λ (k : ℕ). wordsOf (take k numbers)) (add-one i) ∙ go i numbers h
   where
-    go : (i : ℕ) (numbers : List ℕ) → i < length numbers → wordsOf (take (suc i) numbers) ≡ wordsOf (take i numbers) ++ wordOf (getD numbers i 0)
+    go :
+        (i : ℕ) (numbers : List ℕ) → i < length numbers →
+        wordsOf (take (suc i) numbers) ≡ wordsOf (take i numbers) ++ wordOf (getD numbers i 0)
     go i [] h = absurd (omega arith)
     go zero (n ∷ numbers) h = append-nil (wordOf n)
-    go (suc i) (n ∷ numbers) h = ap (λ (l : List ℕ). wordOf n ++ l) (go i numbers (omega arith)) ∙ sym (append-assoc (wordOf n) (wordsOf (take i numbers)) (wordOf (getD numbers i 0)))
+    go (suc i) (n ∷ numbers) h =
+        ap (λ (l : List ℕ). wordOf n ++ l) (go i numbers (omega arith))
+        ∙ sym (append-assoc (wordOf n) (wordsOf (take i numbers)) (wordOf (getD numbers i 0)))
 
 -- every number of the list fits four bytes
 abbrev pub Fit : List ℕ → Type 0

@@ -30,9 +30,11 @@ same-length c = search needs
 
 returns : tie.Need-returns
 returns c =
-    let a = c .before .before .before .before .before .before .before .before .before .before .before .args in
-    let told = c .before .before .before .before .before .before .enum-told .given .1 in
-    let number : c .before .before .before .before .number .result ≡ numberOf OtherShape = c .before .before .before .before .number .ensures ∙ ap numberOf told in
+    let at-number = c .before .before .before .before in
+    let at-told = at-number .before .before in
+    let a = at-told .before .before .before .before .before .args in
+    let told = at-told .enum-told .given .1 in
+    let number : at-number .number .result ≡ numberOf OtherShape = at-number .number .ensures ∙ ap numberOf told in
     asked-answers (a .asked) (a .term .now) (a .work .now) _ _ _ _ _ _ told
     (prints _ _ _ (ap (λ (n : ℕ). refusedLine n 0) number) (c .before .before .print-numbers .ensures), ((refl, refl), refl))
 

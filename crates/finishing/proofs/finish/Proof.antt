@@ -31,8 +31,12 @@ run-term-requires : tie.Need-run-term-requires
 run-term-requires c κs =
     let at-match = c .before .before .before in
     let at-admit = at-match .before in
-    let start = at-admit .before .before .before .before .before in
-    (after-ready (start .args .area .now) (start .args .len) (start .args .work .now) (start .args .fuel) (at-admit .admit .result) (at-admit .admit .ensures) (at-match .match .keys1), after-fuelled (start .args .area .now) (start .args .len) (start .args .work .now) (start .args .fuel) (at-admit .admit .result) (at-admit .admit .ensures) (at-match .match .keys1))
+    let a = at-admit .before .before .before .before .before .args in
+    let admit = at-admit .admit in
+    let admitted = at-match .match .keys1 in (
+      after-ready (a .area .now) (a .len) (a .work .now) (a .fuel) (admit .result) (admit .ensures) admitted,
+      after-fuelled (a .area .now) (a .len) (a .work .now) (a .fuel) (admit .result) (admit .ensures) admitted,
+    )
 
 clear-requires : tie.Need-clear-requires
 clear-requires c κs = search needs

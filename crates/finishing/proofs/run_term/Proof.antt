@@ -10,13 +10,16 @@ use Rattle.finishing.proofs.run_term.Statement.{statement}
 use Rattle.finishing.proofs.run_term.Tie as tie
 
 abbrev Inv-loop : tie.InvT-loop
-Inv-loop area₀ len work₀ fuel size₀ count₀ by-rule₀ area work size count by-rule = At fuel area₀ len count by-rule area size work × (length work ≡ length work₀)
+Inv-loop area₀ len work₀ fuel size₀ count₀ by-rule₀ area work size count by-rule =
+    At fuel area₀ len count by-rule area size work × (length work ≡ length work₀)
 
 abbrev μ-loop : tie.MeasureT-loop
 μ-loop area₀ len work₀ fuel size₀ count₀ by-rule₀ area work size count by-rule = fuel - count
 
 loop-holds : tie.Need-loop-holds Inv-loop μ-loop
-loop-holds c = (at-start (c .before .before .args .fuel) (c .before .before .args .area .now) (c .before .before .args .len) (c .before .before .args .work .now) (c .before .before .pre .0), refl)
+loop-holds c =
+    let start = c .before .before in
+    (at-start (start .args .fuel) (start .args .area .now) (start .args .len) (start .args .work .now) (start .pre .0), refl)
 
 step-once-requires : tie.Need-step-once-requires Inv-loop μ-loop
 step-once-requires c κs =
@@ -77,13 +80,20 @@ loop-again c =
     let at-step-once = c .before .before .before .before .before .before .before .before .before in
     let at-loop-test = at-step-once .before .before .before in
     let at-loop = at-loop-test .before in
-    (at-step (at-loop .loop .inv .0) (at-step-once .step-once .result) (at-loop-test .loop-test .taken) (at-step-once .step-once .ensures) (c .before .before .stepping .given .0 .0) (c .before .before .stepping .given .0 .1 .0) (c .used-once .result) (at-step-once .step-once .last .1 .1 .0) (c .before .before .stepping .given .1) (c .used-once .ensures) (at-step-once .step-once .kept .0) (at-step-once .step-once .kept .1 .1 .0), at-step-once .step-once .kept .1 .1 .0 ∙ at-loop .loop .inv .1)
+    let once = at-step-once .step-once in
+    let done = c .before .before .stepping .given in (
+      at-step (at-loop .loop .inv .0) (once .result) (at-loop-test .loop-test .taken) (once .ensures) (done .0 .0) (done .0 .1 .0)
+          (c .used-once .result) (once .last .1 .1 .0) (done .1) (c .used-once .ensures) (once .kept .0) (once .kept .1 .1 .0),
+      once .kept .1 .1 .0 ∙ at-loop .loop .inv .1,
+    )
 
 slice-reshare-prefix-has-stop : tie.Need-slice-reshare-prefix-has-stop Inv-loop μ-loop
 slice-reshare-prefix-has-stop c = c .before .loop .inv .0 .ready .held .within
 
 slice-aggregate-has-stop : tie.Need-slice-aggregate-has-stop Inv-loop μ-loop
-slice-aggregate-has-stop c = sym (length-take-le (c .before .before .loop .size) (c .before .before .loop .area) (c .before .before .loop .inv .0 .ready .held .within))
+slice-aggregate-has-stop c =
+    let at-loop = c .before .before in
+    sym (length-take-le (at-loop .loop .size) (at-loop .loop .area) (at-loop .loop .inv .0 .ready .held .within))
 
 has-stop-requires : tie.Need-has-stop-requires Inv-loop μ-loop
 has-stop-requires c κs = search needs

@@ -26,8 +26,12 @@ returns : tie.Need-returns
 returns c =
     let at-if1 = c .before .before .before .before .before .before in
     let at-answer-run = at-if1 .before .before .before .before .before .before .before in
-    let start = at-answer-run .before .before .before .before .before .before .before in
-    (mix-rows (start .args .asked) (start .args .term .now) (start .args .work .now) (start .args .out .now) (at-answer-run .answer-run .result .ran) (at-answer-run .answer-run .result .«by_rule») (at-answer-run .answer-run .ensures .1 .1) (at-answer-run .answer-run .result .size) _ (at-answer-run .answer-run .ensures .0) _ (at-if1 .if1 .taken) (c .before .before .append-rows .ensures), at-answer-run .answer-run .ensures .1 .0)
+    let ran = at-answer-run .answer-run in
+    let a = at-answer-run .before .before .before .before .before .before .before .args in (
+      mix-rows (a .asked) (a .term .now) (a .work .now) (a .out .now) (ran .result .ran) (ran .result .«by_rule») (ran .ensures .1 .1)
+          (ran .result .size) _ (ran .ensures .0) _ (at-if1 .if1 .taken) (c .before .before .append-rows .ensures),
+      ran .ensures .1 .0,
+    )
 
 same-length-4 : tie.Need-same-length-4
 same-length-4 c = search needs
@@ -41,8 +45,12 @@ same-length-6 c = search needs
 returns-2 : tie.Need-returns-2
 returns-2 c =
     let at-answer-run = c .before .before .before .before .before .before .before in
-    let start = at-answer-run .before .before .before .before .before .before .before in
-    (mix-alone (start .args .asked) (start .args .term .now) (start .args .work .now) (start .args .out .now) (at-answer-run .answer-run .result .ran) (at-answer-run .answer-run .result .«by_rule») (at-answer-run .answer-run .ensures .1 .1) (at-answer-run .answer-run .result .size) _ (at-answer-run .answer-run .ensures .0) (c .if1 .left), at-answer-run .answer-run .ensures .1 .0)
+    let ran = at-answer-run .answer-run in
+    let a = at-answer-run .before .before .before .before .before .before .before .args in (
+      mix-alone (a .asked) (a .term .now) (a .work .now) (a .out .now) (ran .result .ran) (ran .result .«by_rule») (ran .ensures .1 .1)
+          (ran .result .size) _ (ran .ensures .0) (c .if1 .left),
+      ran .ensures .1 .0,
+    )
 
 pub answer-mix-spec : {M : Type 1} → statement M
 answer-mix-spec =

@@ -28,7 +28,15 @@ add-digits : tie.Need-add-digits
 add-digits c = search needs
 
 returns : tie.Need-returns
-returns c = let a = c .before .before .before .before .before .before .before .args in row-cut (a .rule) (a .count) (a .largest) (a .at) (a .out .now) (c .before .before .before .cut .result .now) (bar-cut (a .count) (a .largest) (c .before .before .before .before .bar-width .result) (c .before .before .before .cut .result .now) (c .before .before .before .before .bar-width .ensures) (c .before .before .before .cut .ensures)) (row-none-at (decimal (a .rule) ∷ decimal (a .count) ∷ c .before .before .before .cut .result .now ∷ []) (a .at) (a .out .now) (omega arith))
+returns c =
+    let at-cut = c .before .before .before in
+    let at-width = at-cut .before in
+    let a = at-width .before .before .before .args in
+    let cut = at-cut .cut .result .now in
+    let fields = decimal (a .rule) ∷ decimal (a .count) ∷ cut ∷ [] in
+    row-cut (a .rule) (a .count) (a .largest) (a .at) (a .out .now) cut
+    (bar-cut (a .count) (a .largest) (at-width .bar-width .result) cut (at-width .bar-width .ensures) (at-cut .cut .ensures))
+    (row-none-at fields (a .at) (a .out .now) (omega arith))
 
 sub-if2 : tie.Need-sub-if2
 sub-if2 c = search needs
@@ -40,7 +48,15 @@ add-if2-2 : tie.Need-add-if2-2
 add-if2-2 c = search needs
 
 returns-2 : tie.Need-returns-2
-returns-2 c = let a = c .before .before .before .before .before .before .before .before .args in row-cut (a .rule) (a .count) (a .largest) (a .at) (a .out .now) (c .before .before .before .before .cut .result .now) (bar-cut (a .count) (a .largest) (c .before .before .before .before .before .bar-width .result) (c .before .before .before .before .cut .result .now) (c .before .before .before .before .before .bar-width .ensures) (c .before .before .before .before .cut .ensures)) (row-none-at (decimal (a .rule) ∷ decimal (a .count) ∷ c .before .before .before .before .cut .result .now ∷ []) (a .at) (a .out .now) (omega arith))
+returns-2 c =
+    let at-cut = c .before .before .before .before in
+    let at-width = at-cut .before in
+    let a = at-width .before .before .before .args in
+    let cut = at-cut .cut .result .now in
+    let fields = decimal (a .rule) ∷ decimal (a .count) ∷ cut ∷ [] in
+    row-cut (a .rule) (a .count) (a .largest) (a .at) (a .out .now) cut
+    (bar-cut (a .count) (a .largest) (at-width .bar-width .result) cut (at-width .bar-width .ensures) (at-cut .cut .ensures))
+    (row-none-at fields (a .at) (a .out .now) (omega arith))
 
 append-number-requires : tie.Need-append-number-requires
 append-number-requires c κs = search needs
@@ -55,7 +71,21 @@ same-length : tie.Need-same-length
 same-length c = search needs
 
 returns-3 : tie.Need-returns-3
-returns-3 c = let a = c .before .before .before .before .before .before .before .before .before .before .before .before .before .before .before .before .before .before .before .before .args in row-cut (a .rule) (a .count) (a .largest) (a .at) (a .out .now) (c .before .before .before .before .before .before .before .before .before .before .before .before .before .before .before .before .cut .result .now) (bar-cut (a .count) (a .largest) (c .before .before .before .before .before .before .before .before .before .before .before .before .before .before .before .before .before .bar-width .result) (c .before .before .before .before .before .before .before .before .before .before .before .before .before .before .before .before .cut .result .now) (c .before .before .before .before .before .before .before .before .before .before .before .before .before .before .before .before .before .bar-width .ensures) (c .before .before .before .before .before .before .before .before .before .before .before .before .before .before .before .before .cut .ensures)) (row-appended-at (decimal (a .rule) ∷ decimal (a .count) ∷ c .before .before .before .before .before .before .before .before .before .before .before .before .before .before .before .before .cut .result .now ∷ []) (a .at) (a .out .now) (omega arith) (Fields.next (c .before .before .before .before .before .before .before .before .before .before .append-number .ensures) (Fields.next (c .before .before .before .before .before .before .append-number2 .ensures) (Fields.last (c .before .before .append-field .ensures)))))
+returns-3 c =
+    let second = c .before .before .before .before .before .before in
+    let at-if2 = second .before .before .before .before .before .before in
+    let at-if1 = at-if2 .before in
+    let lengths = at-if1 .before in
+    let at-cut = lengths .before .before in
+    let a = at-cut .before .before .before .before .args in
+    let cut = at-cut .cut .result .now in
+    let digits = lengths .before .decimal-length .ensures in
+    row-cut (a .rule) (a .count) (a .largest) (a .at) (a .out .now) cut
+    (bar-cut (a .count) (a .largest) (at-cut .before .bar-width .result) cut (at-cut .before .bar-width .ensures) (at-cut .cut .ensures))
+    (row-appended-at (decimal (a .rule) ∷ decimal (a .count) ∷ cut ∷ []) (a .at) (a .out .now)
+    (omega (arith, at-if1 .if1 .left, at-if2 .if2 .left, digits, lengths .decimal-length2 .ensures))
+    (Fields.next (second .before .before .before .before .append-number .ensures)
+    (Fields.next (second .append-number2 .ensures) (Fields.last (c .before .before .append-field .ensures)))))
 
 pub append-row-spec : {M : Type 1} → statement M
 append-row-spec =

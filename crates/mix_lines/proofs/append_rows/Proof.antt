@@ -14,7 +14,8 @@ use Rattle.mix_lines.proofs.append_rows.Statement.{statement}
 use Rattle.mix_lines.proofs.append_rows.Tie as tie
 
 abbrev Inv-loop : tie.InvT-loop
-Inv-loop counts out₀ at largest end₀ i₀ out end i = (i ≤ length counts) × (length out ≡ length out₀) × (putAll (rowsAt largest counts i) end out ≡ putAll (mixRows counts) at out₀)
+Inv-loop counts out₀ at largest end₀ i₀ out end i =
+    (i ≤ length counts) × (length out ≡ length out₀) × (putAll (rowsAt largest counts i) end out ≡ putAll (mixRows counts) at out₀)
 
 abbrev μ-loop : tie.MeasureT-loop
 μ-loop counts out₀ at largest end₀ i₀ out end i = length counts - i
@@ -24,8 +25,8 @@ largest-of-requires c κs = search needs
 
 loop-holds : tie.Need-loop-holds Inv-loop μ-loop
 loop-holds c =
-    let start = c .before .before .before in
-    (omega arith, refl, ap (λ (k : ℕ). putAll (rowsFrom k 1 (start .args .counts .now)) (start .args .at) (start .args .out .now)) (c .largest-of .ensures))
+    let a = c .before .before .before .args in
+    (omega arith, refl, ap (λ (k : ℕ). putAll (rowsFrom k 1 (a .counts .now)) (a .at) (a .out .now)) (c .largest-of .ensures))
 
 add-append-row : tie.Need-add-append-row Inv-loop μ-loop
 add-append-row c = search needs
@@ -47,21 +48,27 @@ loop-less c = search needs
 
 loop-again : tie.Need-loop-again Inv-loop μ-loop
 loop-again c =
+    let put = c .before .before .append-row in
     let at-loop-test = c .before .before .before .before .before in
     let at-loop = at-loop-test .before in
-    let at-largest-of = at-loop .before in
-    let start = at-largest-of .before .before .before in
-    (omega arith, c .before .before .append-row .kept .1 .1 .1 .0 ∙ at-loop .loop .inv .1, put-next (at-largest-of .largest-of .result) (start .args .counts .now) (at-loop .loop .i) (at-loop .loop .end) (c .before .before .append-row .result) (at-loop .loop .out) (c .before .before .append-row .last .1 .1 .1 .0) (at-loop-test .loop-test .taken) (c .before .before .append-row .ensures) ∙ at-loop .loop .inv .2)
+    let loop = at-loop .loop in
+    let largest = at-loop .before .largest-of .result in
+    let counts = at-loop .before .before .before .before .args .counts .now in (
+      omega arith,
+      put .kept .1 .1 .1 .0 ∙ loop .inv .1,
+      put-next largest counts (loop .i) (loop .end) (put .result) (loop .out) (put .last .1 .1 .1 .0) (at-loop-test .loop-test .taken) (put .ensures)
+          ∙ loop .inv .2,
+    )
 
 same-length : tie.Need-same-length Inv-loop μ-loop
 same-length c = search needs
 
 returns : tie.Need-returns Inv-loop μ-loop
 returns c =
-    let start = c .before .before .before .before .before in
-    sym
-    (ap (λ (rows : List (List ℕ)). putAll rows (c .before .loop .end) (c .before .loop .out)) (rows-end (c .before .before .largest-of .result) (start .args .counts .now) (c .before .loop .i) (omega arith)))
-    ∙ c .before .loop .inv .2
+    let loop = c .before .loop in
+    let largest = c .before .before .largest-of .result in
+    let counts = c .before .before .before .before .before .args .counts .now in
+    sym (ap (λ (rows : List (List ℕ)). putAll rows (loop .end) (loop .out)) (rows-end largest counts (loop .i) (omega arith))) ∙ loop .inv .2
 
 pub append-rows-spec : {M : Type 1} → statement M
 append-rows-spec =

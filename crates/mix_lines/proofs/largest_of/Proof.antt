@@ -36,9 +36,11 @@ loop-less c = search needs
 
 loop-again : tie.Need-loop-again Inv-loop μ-loop
 loop-again c =
-    let at-loop = c .before .before .before in
-    let start = at-loop .before .before in
-    (omega arith, sym (largest-next (start .args .counts .now) (at-loop .loop .i) (at-loop .loop .most) (c .larger .result) (c .before .before .loop-test .taken) (c .larger .ensures)) ∙ at-loop .loop .inv .1)
+    let loop = c .before .before .before .loop in
+    let counts = c .before .before .before .before .before .args .counts .now in (
+      omega arith,
+      sym (largest-next counts (loop .i) (loop .most) (c .larger .result) (c .before .before .loop-test .taken) (c .larger .ensures)) ∙ loop .inv .1,
+    )
 
 returns : tie.Need-returns Inv-loop μ-loop
 returns c =

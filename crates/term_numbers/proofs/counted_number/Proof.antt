@@ -30,7 +30,11 @@ finish-number-requires c κs = search needs
 
 returns : tie.Need-returns
 unfolding finishNumber
-returns c = c .wide .ensures ∙ coded-refusal (λ done. runParts (ranOf (c .before .before .before .before .before .args .run))) _ (counting-refusal (c .before .before .before .enum-told .given .1)) (c .before .before .number .ensures) (c .before .place .ensures)
+returns c =
+    let told = c .before .before .before in
+    c .wide .ensures
+    ∙ coded-refusal (λ done. runParts (ranOf (told .before .before .args .run))) _ (counting-refusal (told .enum-told .given .1))
+    (c .before .before .number .ensures) (c .before .place .ensures)
 
 returns-2 : tie.Need-returns-2
 returns-2 c =
