@@ -1,12 +1,13 @@
 /*
- * The engine for the controller's firmware: six functions on byte pointers and numbers.
+ * The engine for the controller's firmware: seven functions on byte pointers and numbers.
  *
- *     controller_read       is this text one term?                      answers its size
- *     controller_step       one step of a term, in place                answers the rule used
- *     controller_finish     steps until the term has none left          answers how many
- *     controller_compare    have two terms the same result?             answers yes, no or not known
- *     controller_check      does every line of a derivation follow?     answers how many lines
- *     controller_match      do two derivations claim the same type?     answers yes or no
+ *     controller_read             is this text one term?                      answers its size
+ *     controller_step             one step of a term, in place                answers the rule used
+ *     controller_finish           steps until the term has none left          answers how many
+ *     controller_finish_counted   the same                                    and how many by each rule
+ *     controller_compare          have two terms the same result?             answers yes, no or not known
+ *     controller_check            does every line of a derivation follow?     answers how many lines
+ *     controller_match            do two derivations claim the same type?     answers yes or no
  *
  * NEEDS
  *   Each buffer is lent at its true length and lies apart from the other buffers of the call. Until the call
@@ -53,7 +54,8 @@ extern "C" {
 /* Of any other answer: a rule's number, a count of steps or a count of lines, as stands with the constant. */
 #define CONTROLLER_VALUE(reply) ((uint32_t)(((reply) >> 8) & 0xffffff))
 
-/* Of an answer of controller_step and controller_finish: the size of the term that now stands in the area. */
+/* Of an answer of controller_step, controller_finish and controller_finish_counted: the size of the term that
+   now stands in the area. */
 #define CONTROLLER_SIZE(reply) ((uint32_t)((reply) >> 32))
 
 /* ---- Limits -------------------------------------------------------------------------------------------- */
@@ -61,6 +63,8 @@ extern "C" {
 enum {
     CONTROLLER_LARGEST_AREA = 16384, /* bytes of a term area */
     CONTROLLER_MOST_FUEL = 1000000,  /* steps that one call may make */
+    CONTROLLER_RULES = 13,           /* rules of reduction, numbered from 1 */
+    CONTROLLER_COUNTS_SIZE = 52,     /* bytes that a count for each rule takes */
     CONTROLLER_LARGEST_FILE = 65536, /* bytes of a derivation file */
     CONTROLLER_MOST_LINES = 1024     /* lines of a derivation file */
 };
@@ -70,7 +74,8 @@ enum {
 /* Of the functions that take a term. */
 enum {
     CONTROLLER_AREA_TOO_LONG = 1,    /* a term area is longer than CONTROLLER_LARGEST_AREA; place 0 */
-    CONTROLLER_WORK_TOO_SHORT = 2,   /* the work area is shorter than a term area; place 0 */
+    CONTROLLER_WORK_TOO_SHORT = 2,   /* the work area is shorter than a term area, or there are fewer than
+                                        CONTROLLER_COUNTS_SIZE bytes for counts; place 0 */
     CONTROLLER_LENGTH_TOO_LONG = 3,  /* a term is said to be longer than its area; place 0 */
     CONTROLLER_FUEL_TOO_HIGH = 4,    /* the fuel is more than CONTROLLER_MOST_FUEL; place 0 */
     CONTROLLER_NO_LETTER = 5,        /* the byte at that place is none of J R H A I B . and no bell: 1 to 9, 0, E, T */
@@ -135,6 +140,19 @@ uint64_t controller_finish(uint8_t *area, size_t area_size, size_t term_size, ui
                            uint64_t fuel);
 
 /*
+ * Does what controller_finish does and answers the same. Unless it refuses, it also says how often each rule was
+ * used in this run: the first CONTROLLER_COUNTS_SIZE bytes of counts then hold a number of four bytes for each
+ * rule, low byte first, rule 1 first. The bytes behind them stay as they were. CONTROLLER_COUNT takes one of the
+ * numbers out; together they are the count of steps.
+ *   Areas as for controller_step. The bytes for the counts may hold anything; there may be more of them.
+ *   Refusals: CONTROLLER_WORK_TOO_SHORT where there are fewer than CONTROLLER_COUNTS_SIZE of them, then those of
+ *   controller_finish.
+ */
+#define CONTROLLER_COUNT(counts, rule) controller_number((counts) + 4 * ((rule) - 1))
+uint64_t controller_finish_counted(uint8_t *area, size_t area_size, size_t term_size, uint8_t *work,
+                                   size_t work_size, uint64_t fuel, uint8_t *counts, size_t counts_size);
+
+/*
  * Finishes two terms with the same fuel, each in its own area, and compares their results byte for byte. Both
  * are run, also where the first did not finish; each area then holds the term that its run reached.
  *   Areas as for controller_step; the one work area serves both.
@@ -178,6 +196,14 @@ uint64_t controller_match(const uint8_t *first, size_t first_size, const uint8_t
 }
 #endif
 
+/* ---- Numbers of four bytes ----------------------------------------------------------------------------- */
+
+/* The number that stands there, low byte first. */
+static inline uint32_t controller_number(const uint8_t *bytes)
+{
+    return (uint32_t)bytes[0] | (uint32_t)bytes[1] << 8 | (uint32_t)bytes[2] << 16 | (uint32_t)bytes[3] << 24;
+}
+
 /* ---- Null pointers ------------------------------------------------------------------------------------- */
 
 /*
@@ -217,6 +243,15 @@ static inline uint64_t controller_call_finish(uint8_t *area, size_t area_size, s
                              controller_lent(work, work_size), work_size, fuel);
 }
 
+static inline uint64_t controller_call_finish_counted(uint8_t *area, size_t area_size, size_t term_size,
+                                                      uint8_t *work, size_t work_size, uint64_t fuel,
+                                                      uint8_t *counts, size_t counts_size)
+{
+    return controller_finish_counted(controller_lent(area, area_size), area_size, term_size,
+                                     controller_lent(work, work_size), work_size, fuel,
+                                     controller_lent(counts, counts_size), counts_size);
+}
+
 static inline uint64_t controller_call_compare(uint8_t *first, size_t first_size, size_t first_term,
                                                uint8_t *second, size_t second_size, size_t second_term,
                                                uint8_t *work, size_t work_size, uint64_t fuel)
@@ -243,6 +278,8 @@ static inline uint64_t controller_call_match(const uint8_t *first, size_t first_
     controller_call_step(area, area_size, term_size, work, work_size)
 #define controller_finish(area, area_size, term_size, work, work_size, fuel) \
     controller_call_finish(area, area_size, term_size, work, work_size, fuel)
+#define controller_finish_counted(area, area_size, term_size, work, work_size, fuel, counts, counts_size) \
+    controller_call_finish_counted(area, area_size, term_size, work, work_size, fuel, counts, counts_size)
 #define controller_compare(first, first_size, first_term, second, second_size, second_term, work, work_size, fuel) \
     controller_call_compare(first, first_size, first_term, second, second_size, second_term, work, work_size, fuel)
 #define controller_check(file, file_size) controller_call_check(file, file_size)

@@ -39,6 +39,14 @@ uint64_t(controller_finish)(uint8_t *area, size_t area_size, size_t term_size, u
     return 3;
 }
 
+uint64_t(controller_finish_counted)(uint8_t *area, size_t area_size, size_t term_size, uint8_t *work,
+                                    size_t work_size, uint64_t fuel, uint8_t *counts, size_t counts_size)
+{
+    printf("finish_counted %s %zu %zu %s %zu %" PRIu64 " %s %zu\n", name_of(area), area_size, term_size,
+           name_of(work), work_size, fuel, name_of(counts), counts_size);
+    return 7;
+}
+
 uint64_t(controller_compare)(uint8_t *first, size_t first_size, size_t first_term, uint8_t *second,
                              size_t second_size, size_t second_term, uint8_t *work, size_t work_size,
                              uint64_t fuel)
@@ -79,6 +87,9 @@ int main(void)
     returned(controller_step(NULL, 0, 2, NULL, 0));
     returned(controller_finish(a, 1, 2, b, 3, 4));
     returned(controller_finish(NULL, 0, 2, NULL, 0, 4));
+    returned(controller_finish_counted(a, 1, 2, b, 3, 4, c, 5));
+    returned(controller_finish_counted(NULL, 0, 2, NULL, 0, 4, NULL, 0));
+    returned(controller_finish_counted(a, 1, 2, b, 3, 4, NULL, 7));
     returned(controller_compare(a, 1, 2, b, 3, 4, c, 5, 6));
     returned(controller_compare(NULL, 0, 2, NULL, 0, 4, NULL, 0, 6));
     returned(controller_check(a, 1));
@@ -87,6 +98,7 @@ int main(void)
     returned(controller_match(NULL, 0, NULL, 0));
     returned(controller_read(a, n++));
     returned(controller_step(a, n++, 0, b, 0));
+    returned(controller_finish_counted(a, 0, 0, b, 0, 0, c, n++));
     printf("n is %zu\n", n);
     return 0;
 }

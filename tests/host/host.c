@@ -1,4 +1,4 @@
-/* A host like the firmware. It calls the six functions on a table of inputs and prints each reply and every
+/* A host like the firmware. It calls the seven functions on a table of inputs and prints each reply and every
  * lent byte afterwards; what it must print is written by hand in expected.txt. It knows the engine from its
  * header alone: no code and no limit stands here as a number.
  *
@@ -34,6 +34,8 @@ static const constant limits[] = {
     CONSTANT(MOST_FUEL),
     CONSTANT(LARGEST_FILE),
     CONSTANT(MOST_LINES),
+    CONSTANT(RULES),
+    CONSTANT(COUNTS_SIZE),
 };
 
 #define COUNT(table) (sizeof(table) / sizeof(table)[0])
@@ -183,6 +185,94 @@ static void finish_nested(const char *letters, size_t times, const char *end, ui
     putchar('\n');
     free(area);
     free(work);
+}
+
+/* Finishing with counts, in a buffer of the given size. */
+
+/* The count of each rule, and the bytes behind the counts. */
+static void print_counts(const uint8_t *counts, size_t size)
+{
+    printf(" counts");
+    for (int rule = 1; rule <= CONTROLLER_RULES; rule++)
+        printf(" %" PRIu32, CONTROLLER_COUNT(counts, rule));
+    print_bytes("behind", counts + CONTROLLER_COUNTS_SIZE, size - CONTROLLER_COUNTS_SIZE);
+}
+
+static uint8_t *counts_of(size_t size)
+{
+    return block("", 0, size, 'c');
+}
+
+static void finish_counted(const char *term, size_t area_size, size_t term_size, size_t work_size, uint64_t fuel,
+                           size_t counts_size)
+{
+    uint8_t *area = block(term, strlen(term), area_size, '#');
+    uint8_t *work = work_of(work_size);
+    uint8_t *counts = counts_of(counts_size);
+    uint64_t reply =
+        controller_finish_counted(area, area_size, term_size, work, work_size, fuel, counts, counts_size);
+    printf("count %s fuel %" PRIu64, term, fuel);
+    print_reply(reply);
+    print_bytes("area", area, area_size);
+    print_bytes("work", work, work_size);
+    if (CONTROLLER_REFUSED(reply) || counts_size < CONTROLLER_COUNTS_SIZE)
+        print_bytes("counts", counts, counts_size);
+    else
+        print_counts(counts, counts_size);
+    putchar('\n');
+    free(area);
+    free(work);
+    free(counts);
+}
+
+/* Of large areas the first byte and the last are printed. */
+static void finish_counted_large(size_t area_size, size_t counts_size)
+{
+    uint8_t *area = block("J", 1, area_size, '#');
+    uint8_t *work = work_of(area_size);
+    uint8_t *counts = counts_of(counts_size);
+    printf("count in %zu and %zu", area_size, counts_size);
+    print_reply(controller_finish_counted(area, area_size, 1, work, area_size, 5, counts, counts_size));
+    print_bytes("first", area, 1);
+    print_bytes("last", area + area_size - 1, 1);
+    print_bytes("work", work, 1);
+    print_bytes("last", work + area_size - 1, 1);
+    print_bytes("counts", counts, 1);
+    print_bytes("last", counts + counts_size - 1, 1);
+    putchar('\n');
+    free(area);
+    free(work);
+    free(counts);
+}
+
+/* Two letters over and over, then one, in an area of exactly that size. */
+static void finish_counted_nested(const char *letters, size_t times, char end)
+{
+    size_t size = 2 * times + 1;
+    uint8_t *area = block("", 0, size, (uint8_t)end);
+    uint8_t *work = work_of(size);
+    uint8_t *counts = counts_of(CONTROLLER_COUNTS_SIZE);
+    for (size_t place = 0; place < 2 * times; place++)
+        area[place] = (uint8_t)letters[place % 2];
+    printf("count %s^%zu %c", letters, times, end);
+    print_reply(controller_finish_counted(area, size, size, work, size, CONTROLLER_MOST_FUEL, counts,
+                                          CONTROLLER_COUNTS_SIZE));
+    print_counts(counts, CONTROLLER_COUNTS_SIZE);
+    putchar('\n');
+    free(area);
+    free(work);
+    free(counts);
+}
+
+/* The macro for counts, on bytes that are all different; its arguments may be sums. */
+static void counts_by_macro(void)
+{
+    uint8_t counts[CONTROLLER_COUNTS_SIZE];
+    int two = 2;
+    for (size_t place = 0; place < sizeof counts; place++)
+        counts[place] = (uint8_t)(255 - place);
+    printf("counts of falling bytes: %" PRIu32 " %" PRIu32 " %" PRIu32 "\n", CONTROLLER_COUNT(counts, 1),
+           CONTROLLER_COUNT(counts + 4, two - 1), CONTROLLER_COUNT(counts, CONTROLLER_RULES));
 }
 
 /* Comparing of two terms, in areas of these sizes. */
@@ -348,6 +438,44 @@ static void run_refusals(void)
     finish_large(CONTROLLER_LARGEST_AREA, CONTROLLER_LARGEST_AREA - 1);
 }
 
+static void counted_runs(void)
+{
+    finish_counted("J", 2, 1, 2, 0, CONTROLLER_COUNTS_SIZE);
+    finish_counted(".BII.JRJ", 12, 8, 12, 6, CONTROLLER_COUNTS_SIZE);
+    finish_counted(".BII.JRJ", 12, 8, 13, 5, CONTROLLER_COUNTS_SIZE + 3);
+    finish_counted(".BII.JRJ", 11, 8, 11, 2, CONTROLLER_COUNTS_SIZE + 1);
+    finish_counted(".BII.JRJ", 11, 8, 11, 0, CONTROLLER_COUNTS_SIZE);
+    finish_counted(".BIIABJIRJ", 14, 10, 14, 100, CONTROLLER_COUNTS_SIZE);
+    finish_counted(".BJI.1T", 11, 7, 11, 100, CONTROLLER_COUNTS_SIZE);
+    finish_counted(".B1B2B3IBRRJBRJBJI", 33, 18, 33, 100, CONTROLLER_COUNTS_SIZE);
+    finish_counted("H.JIH.RJIH.HJIIH.AIJ1H.IIH.BJIRJH.BJIHJ1H.BJIAIJH.BJIBIIH.1J.BJIT", 65, 65, 65,
+                   CONTROLLER_MOST_FUEL, CONTROLLER_COUNTS_SIZE);
+    counts_by_macro();
+}
+
+static void long_counts(void)
+{
+    finish_counted_nested(".I", CONTROLLER_LARGEST_AREA / 2 - 1, 'J');
+    finish_counted_nested(".1", CONTROLLER_LARGEST_AREA / 2 - 1, 'T');
+}
+
+/* A short buffer comes before everything else. */
+static void count_refusals(void)
+{
+    finish_counted("J", 3, 1, 3, 5, CONTROLLER_COUNTS_SIZE - 1);
+    finish_counted("J", 3, 1, 3, 5, 0);
+    finish_counted("xJ", 3, 4, 2, CONTROLLER_MOST_FUEL + 1, 1);
+    finish_counted("xJ", 3, 4, 2, CONTROLLER_MOST_FUEL + 1, CONTROLLER_COUNTS_SIZE);
+    finish_counted("xJ", 3, 4, 3, CONTROLLER_MOST_FUEL + 1, CONTROLLER_COUNTS_SIZE);
+    finish_counted("xJ", 3, 2, 3, CONTROLLER_MOST_FUEL + 1, CONTROLLER_COUNTS_SIZE);
+    finish_counted("xJ", 3, 2, 3, 5, CONTROLLER_COUNTS_SIZE);
+    finish_counted("HJ", 3, 2, 3, 5, CONTROLLER_COUNTS_SIZE);
+    finish_counted("JJ", 3, 2, 3, 5, CONTROLLER_COUNTS_SIZE + 1);
+    finish_counted_large(CONTROLLER_LARGEST_AREA, CONTROLLER_COUNTS_SIZE);
+    finish_counted_large(CONTROLLER_LARGEST_AREA + 1, CONTROLLER_COUNTS_SIZE);
+    finish_counted_large(CONTROLLER_LARGEST_AREA + 1, CONTROLLER_COUNTS_SIZE - 1);
+}
+
 static void comparisons(void)
 {
     compare(".BII.JRJ", 12, ".IJ", 3, 13, 6);
@@ -412,6 +540,7 @@ static void nulls(void)
 {
     uint8_t area[] = {'J', '#', '#'};
     uint8_t work[] = {'w', 'w', 'w'};
+    uint8_t *counts = counts_of(CONTROLLER_COUNTS_SIZE);
     const uint8_t *file = (const uint8_t *)LINE_I;
     size_t file_size = strlen(LINE_I);
     printf("read null");
@@ -424,6 +553,13 @@ static void nulls(void)
     print_reply(controller_step(area, sizeof area, 1, NULL, 0));
     printf("\nfinish null");
     print_reply(controller_finish(NULL, 0, 0, work, sizeof work, 5));
+    printf("\ncount J, counts null");
+    print_reply(controller_finish_counted(area, sizeof area, 1, work, sizeof work, 5, NULL, 0));
+    printf("\ncount null, counts null");
+    print_reply(controller_finish_counted(NULL, 0, 0, NULL, 0, 5, NULL, 0));
+    printf("\ncount null");
+    print_reply(controller_finish_counted(NULL, 0, 0, NULL, 0, 5, counts, CONTROLLER_COUNTS_SIZE));
+    print_bytes("counts", counts, CONTROLLER_COUNTS_SIZE);
     printf("\ncompare J and null");
     print_reply(controller_compare(area, sizeof area, 1, NULL, 0, 0, work, sizeof work, 5));
     printf("\ncheck null");
@@ -435,6 +571,7 @@ static void nulls(void)
     print_bytes("area", area, sizeof area);
     print_bytes("work", work, sizeof work);
     putchar('\n');
+    free(counts);
 }
 
 /* The functions themselves, by their addresses. */
@@ -458,11 +595,15 @@ int main(int count, char **words)
 {
     (void)words;
     constants();
+    if (CONTROLLER_COUNTS_SIZE != 4 * CONTROLLER_RULES)
+        return 1;
     readings();
     steps();
     step_refusals();
     runs();
     run_refusals();
+    counted_runs();
+    count_refusals();
     comparisons();
     checks();
     matches();
@@ -471,6 +612,7 @@ int main(int count, char **words)
     if (count == 1) {
         long_readings();
         long_runs();
+        long_counts();
     }
     return 0;
 }

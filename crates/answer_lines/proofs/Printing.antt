@@ -33,7 +33,7 @@ pub ran-prints :
 ran-prints run area term out n out′ {o} cut e =
     prints out n out′
     (ap (lineOf (word (outcomeOf o)) (run .count)) (cut ∙ part-front (run .size) area)
-    ∙ ap (λ (p : Outcome). ranLine (Ran.ran (outcomeOf p) (run .count) (run .size)) area) (sym e))
+    ∙ ap (λ (p : Outcome). ranLine (Ran.ran (outcomeOf p) (run .count) (run .«by_rule») (run .size)) area) (sym e))
 
 -- the line of a refusal is that of its number and place
 shown-refused :

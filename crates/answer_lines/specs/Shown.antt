@@ -19,7 +19,7 @@ refusedLine number place = numbersOf (ascii "refused") number place
 
 -- a run's outcome and count, and the term now in the area
 abbrev pub ranLine : Ran → (area : List ℕ) → List ℕ
-ranLine (Ran.ran o count size) area = lineOf (word o) count (take size area)
+ranLine (Ran.ran o count byRule size) area = lineOf (word o) count (take size area)
 
 abbrev pub replyLine : Reply Unit → Ran → (area : List ℕ) → List ℕ
 replyLine (Reply.refused number place) r area = refusedLine number place

@@ -74,7 +74,7 @@ refusal-small {plain = plain} low low′ few (Refuses.at-zero m e) = (below plai
 refusal-small {placed = placed} low low′ few (Refuses.at-place m from to) = (below placed low′ m, omega arith)
 
 -- the line of a call of finishing
-call-length : {area work : List ℕ} {len fuel : ℕ} {x : After} → Call area len work fuel x → length (shownRun x) ≤ 16402
+pub call-length : {area work : List ℕ} {len fuel : ℕ} {x : After} → Call area len work fuel x → length (shownRun x) ≤ 16402
 call-length (Call.refused {number} {place} found) =
     let (h, k) = refusal-small (omega arith) (omega arith) (omega arith) found in
     omega (arith, refused-length number place h k)

@@ -13,7 +13,7 @@ use lib.Seq.{take-all}
 use Rattle.slices.specs.Put.{put, behind}
 use Rattle.reading.specs.Reply.{Reply}
 use Rattle.derivation_files.specs.Checking.{checkingOf}
-use Rattle.finishing.specs.Finishing.{finishingOf}
+use Rattle.finishing.specs.Finishing.{After, finishingOf}
 use Rattle.line_states.specs.Request.{requestOf}
 use Rattle.line_states.specs.Request.{Request as Wanted}
 use Rattle.finish_line.specs.Answer.{askedOf}
@@ -21,8 +21,8 @@ use Rattle.line_states.specs.Fed.{fuelCap, lengthCap}
 use Rattle.finish_line.specs.declared.Asked.{Asked}
 use Rattle.finish_line.proofs.Asks.{Answers, inputOf, after, line-answers}
 use Rattle.answer_lines.specs.Shown.{shownRun, shownCheck}
-use Rattle.answering.specs.Program.{areaWith, requestLine, finishProgram, checkProgram, unlessFailed}
-use Rattle.answering.specs.Answer.{printedRun}
+use Rattle.answering.specs.Program.{shapeLine, areaWith, requested, finishProgram, checkProgram, unlessFailed}
+use Rattle.answering.specs.Answer.{made, printedRun}
 use Rattle.answering.proofs.Ranges.{Ranged, ranged}
 use Rattle.answering.proofs.Caps.{capped}
 use Rattle.answering.proofs.Zeros.{zeros, length-zeros, take-zeros, kept-area, length-area}
@@ -30,24 +30,35 @@ use Rattle.answering.proofs.Lengths.{program-length, line-whole}
 use Rattle.answering.proofs.Verdicts.{check-program-length}
 
 module _ (n m : ℕ) (room : 16384 ≤ n) (work-room : 16384 ≤ m) where
-  -- what is printed for the line's answer is what the request says
-  answered : (o : Option Wanted) (asked : Asked) (buffer : List ℕ) → Ranged o → Answers (zeros n) o asked buffer → printedRun asked buffer (zeros m) ≡ requestLine o
-  answered none asked buffer r e = ap (λ (a : Asked). printedRun a buffer (zeros m)) e
-  answered (some (Wanted.request fuel area term)) asked buffer r (e, kept) =
+  -- what is made of the line's answer is what is made of the request
+  answered :
+      {X : Type 0} (other : X) (of : After → X) (o : Option Wanted) (asked : Asked) (buffer : List ℕ) →
+      Ranged o → Answers (zeros n) o asked buffer →
+      made other of asked buffer (zeros m) ≡ requested other of o
+  answered other of none asked buffer r e = ap (λ (a : Asked). made other of a buffer (zeros m)) e
+  answered other of (some (Wanted.request fuel area term)) asked buffer r (e, kept) =
       let front : take area buffer ≡ areaWith area term = ap (take area) kept ∙ kept-area n area term r room in
       let cleared : take area (zeros m) ≡ zeros area = take-zeros area m (omega arith) in
-      ap (λ (a : Asked). printedRun a buffer (zeros m)) e
-      ∙ ap₂ (λ (a w : List ℕ). shownRun (finishingOf a (min (length term) lengthCap) w (min fuel fuelCap))) front cleared
-      ∙ ap shownRun
+      ap (λ (a : Asked). made other of a buffer (zeros m)) e
+      ∙ ap₂ (λ (a w : List ℕ). of (finishingOf a (min (length term) lengthCap) w (min fuel fuelCap))) front cleared
+      ∙ ap of
       (capped (areaWith area term) (zeros area) (omega (arith, length-area area term)) (omega (arith, length-area area term, length-zeros area)) (length term) fuel)
 
-  -- the finishing program prints its definition, however its input is cut
+  -- what is made of a line, however the input is cut
+  pub input-made :
+      {X : Type 0} (other : X) (of : After → X) (chunks : List (List ℕ)) →
+      made other of (askedOf (after (zeros n) chunks .line)) (after (zeros n) chunks .buffer) (zeros m)
+      ≡ requested other of (requestOf (inputOf chunks))
+  input-made other of chunks =
+      answered other of (requestOf (inputOf chunks)) (askedOf (after (zeros n) chunks .line)) (after (zeros n) chunks .buffer)
+      (ranged (inputOf chunks)) (line-answers (zeros n) chunks)
+
+  -- the finishing program prints its definition
   pub finish-prints :
       (chunks : List (List ℕ)) →
       printedRun (askedOf (after (zeros n) chunks .line)) (after (zeros n) chunks .buffer) (zeros m) ≡ finishProgram (inputOf chunks)
   unfolding finishProgram
-  finish-prints chunks =
-      answered (requestOf (inputOf chunks)) (askedOf (after (zeros n) chunks .line)) (after (zeros n) chunks .buffer) (ranged (inputOf chunks)) (line-answers (zeros n) chunks)
+  finish-prints chunks = input-made shapeLine shownRun chunks
 
   -- the line that `answer_run` prints, once the input was fed
   abbrev pub printed : List (List ℕ) → List ℕ

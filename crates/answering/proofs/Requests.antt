@@ -3,16 +3,18 @@
 use Prim.Native.Nat.{ℕ, _≤_, min}
 use native.Mathlib.Decide.{decLe}
 use native.Mathlib.Omega.{arith}
-use mathlib.Core.Path.{_≡_, sym, _∙_, ap, ap₂}
+use mathlib.Core.Path.{_≡_, refl, sym, _∙_, ap, ap₂}
+use mathlib.Core.Bool.{Bool}
 use mathlib.Core.List.{List, _++_}
+use mathlib.Core.Option.{Option}
 use lib.ListN.{length, take, drop, length-take, drop-of-length-le}
 use lib.Seq.{take-all, take-at}
 use Rattle.finish_line.specs.declared.Asked.{Asked}
 use Rattle.columns.proofs.Appending.{Appends}
 use Rattle.reading.specs.Reply.{Reply}
-use Rattle.finishing.specs.Finishing.{Ran, After, finishingOf}
+use Rattle.finishing.specs.Finishing.{Ran, After, countsOf, finishingOf}
 use Rattle.answer_lines.specs.Shown.{replyLine, shownRun}
-use Rattle.answering.specs.Answer.{finishedIn, printedRun, areaIn, workIn, termAfter, workAfter}
+use Rattle.answering.specs.Answer.{finishedIn, printedRun, areaIn, workIn, termAfter, workAfter, isAnswered, usesIn, usesOf, someIf}
 use Rattle.answer_lines.proofs.Printing.{prints}
 
 -- a front is cut at the end of a list that is shorter
@@ -45,19 +47,29 @@ front-length area term n area′ en kept =
     let long : length area′ ≡ n = omega (arith, kept, en, length-take n term) in
     sym long ∙ sym (ap length (take-at area′ (drop n term) n long))
 
--- what a call leaves: the printed line, and the two buffers
-abbrev pub Leaves : (line term work : List ℕ) (out : List ℕ) (n : ℕ) (term′ work′ out′ : List ℕ) → Type 0
-Leaves line term work out n term′ work′ out′ = Appends 0 line out n out′ × ((term′ ≡ term) × (work′ ≡ work))
+-- what a call leaves: the printed line, the two buffers, and how often each rule was used
+abbrev pub Leaves :
+    (line term work : List ℕ) (uses : Option (List ℕ)) (out : List ℕ) (n : ℕ) (said : Option (List ℕ)) (term′ work′ out′ : List ℕ) → Type 0
+Leaves line term work uses out n said term′ work′ out′ = Appends 0 line out n out′ × (((term′ ≡ term) × (work′ ≡ work)) × (said ≡ uses))
+
+-- the counts that stand beside an answer
+counts-said :
+    (reply : Reply Unit) (r : Ran) (area work : List ℕ) →
+    someIf (isAnswered reply) (countsOf r) ≡ usesIn (After.after reply r area work)
+counts-said (Reply.refused number place) r area work = refl
+counts-said (Reply.answered done) r area work = refl
 
 -- a request: finishing in the fronts of the buffers
 pub request-answers :
-    (fuel area len : ℕ) (term work : List ℕ) (n m : ℕ) (reply : Reply Unit) (r : Ran) (area′ work′ out : List ℕ) (k : ℕ) (out′ : List ℕ) →
+    (fuel area len : ℕ) (term work : List ℕ) (n m : ℕ) (reply : Reply Unit) (r : Ran) (area′ work′ out : List ℕ) (k : ℕ) (out′ : List ℕ)
+    (ran : Bool) →
     n ≡ min area (length term) → m ≡ min area (length work) → length area′ ≡ length (take n term) →
     After.after reply r area′ work′ ≡ finishingOf (take n term) len (take m work) fuel →
-    Appends 0 (replyLine reply r (take n (area′ ++ drop n term))) out k out′ →
+    Appends 0 (replyLine reply r (take n (area′ ++ drop n term))) out k out′ → ran ≡ isAnswered reply →
     Leaves (shownRun (finishedIn fuel area len term work)) (areaIn (finishedIn fuel area len term work) ++ drop area term)
-    (workIn (finishedIn fuel area len term work) ++ drop area work) out k (area′ ++ drop n term) (work′ ++ drop m work) out′
-request-answers fuel area len term work n m reply r area′ work′ out k out′ en em kept e printed =
+    (workIn (finishedIn fuel area len term work) ++ drop area work) (usesIn (finishedIn fuel area len term work))
+    out k (someIf ran (countsOf r)) (area′ ++ drop n term) (work′ ++ drop m work) out′
+request-answers fuel area len term work n m reply r area′ work′ out k out′ ran en em kept e printed made =
     let fronts : After.after reply r area′ work′ ≡ finishedIn fuel area len term work =
     e
     ∙ ap₂ (λ (t w : List ℕ). finishingOf t len w fuel)
@@ -66,17 +78,25 @@ request-answers fuel area len term work n m reply r area′ work′ out k out′
     let front : take n (area′ ++ drop n term) ≡ area′ = take-at area′ (drop n term) n (omega (arith, kept, en, length-take n term)) in (
       prints out k out′ (ap (replyLine reply r) front ∙ ap shownRun fronts) printed,
       (
-        ap₂ (λ (a b : List ℕ). a ++ b) (ap areaIn fronts) (ap (λ (i : ℕ). drop i term) en ∙ drop-min area term),
-        ap₂ (λ (a b : List ℕ). a ++ b) (ap workIn fronts) (ap (λ (i : ℕ). drop i work) em ∙ drop-min area work),
+        (
+          ap₂ (λ (a b : List ℕ). a ++ b) (ap areaIn fronts) (ap (λ (i : ℕ). drop i term) en ∙ drop-min area term),
+          ap₂ (λ (a b : List ℕ). a ++ b) (ap workIn fronts) (ap (λ (i : ℕ). drop i work) em ∙ drop-min area work),
+        ),
+        ap (λ (b : Bool). someIf b (countsOf r)) made ∙ counts-said reply r area′ work′ ∙ ap usesIn fronts,
       ),
     )
 
 -- what is said of a request is said of what asks for it
 pub asked-answers :
-    (asked : Asked) (term work out : List ℕ) (k : ℕ) (term′ work′ out′ : List ℕ) {other : Asked} → asked ≡ other →
-    Leaves (printedRun other term work) (termAfter other term work) (workAfter other term work) out k term′ work′ out′ →
-    Leaves (printedRun asked term work) (termAfter asked term work) (workAfter asked term work) out k term′ work′ out′
-asked-answers asked term work out k term′ work′ out′ e (printed, (left, right)) = (
+    (asked : Asked) (term work out : List ℕ) (k : ℕ) (said : Option (List ℕ)) (term′ work′ out′ : List ℕ) {other : Asked} → asked ≡ other →
+    Leaves (printedRun other term work) (termAfter other term work) (workAfter other term work) (usesOf other term work)
+    out k said term′ work′ out′ →
+    Leaves (printedRun asked term work) (termAfter asked term work) (workAfter asked term work) (usesOf asked term work)
+    out k said term′ work′ out′
+asked-answers asked term work out k said term′ work′ out′ e (printed, ((left, right), used)) = (
   prints out k out′ (ap (λ (a : Asked). printedRun a term work) (sym e)) printed,
-  (left ∙ ap (λ (a : Asked). termAfter a term work) (sym e), right ∙ ap (λ (a : Asked). workAfter a term work) (sym e)),
+  (
+    (left ∙ ap (λ (a : Asked). termAfter a term work) (sym e), right ∙ ap (λ (a : Asked). workAfter a term work) (sym e)),
+    used ∙ ap (λ (a : Asked). usesOf a term work) (sym e),
+  ),
 )

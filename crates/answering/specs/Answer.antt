@@ -1,21 +1,50 @@
 -- What `answer_run` prints, and what it leaves in the two buffers (REQUIREMENTS, Programs).
 use Prim.Native.Nat.{ℕ}
+use mathlib.Core.Bool.{Bool, true, false}
 use mathlib.Core.List.{List, _++_}
+use mathlib.Core.Option.{Option, none, some}
 use lib.ListN.{take, drop}
-use Rattle.finishing.specs.Finishing.{After, finishingOf}
+use Rattle.reading.specs.Reply.{Reply}
+use Rattle.finishing.specs.Finishing.{After, countsOf, finishingOf}
 use Rattle.finish_line.specs.declared.Asked.{Asked}
 use Rattle.finish_line.specs.declared.Asked.the-variants.{OtherShape, Request}
 use Rattle.answer_lines.specs.Shown.{shownRun}
 use Rattle.answering.specs.Program.{shapeLine}
+use Rattle.answering.specs.declared.Answered.{Answered}
 
 -- finishing in the first `area` bytes of both buffers, or in the whole of one that is shorter
 abbrev pub finishedIn : (fuel area length : ℕ) (term work : List ℕ) → After
 finishedIn fuel area length term work = finishingOf (take area term) length (take area work) fuel
 
+-- what is made of a call: of a line of another shape, or of finishing's answer
+abbrev pub made : {X : Type 0} → X → (After → X) → Asked → (term work : List ℕ) → X
+made other answered OtherShape term work = other
+made other answered (Request fuel area length) term work = answered (finishedIn fuel area length term work)
+
 -- the printed line
 abbrev pub printedRun : Asked → (term work : List ℕ) → List ℕ
-printedRun OtherShape term work = shapeLine
-printedRun (Request fuel area length) term work = shownRun (finishedIn fuel area length term work)
+printedRun asked term work = made shapeLine shownRun asked term work
+
+-- whether a call is not refused
+abbrev pub isAnswered : Reply Unit → Bool
+isAnswered (Reply.refused number place) = false
+isAnswered (Reply.answered done) = true
+
+-- how often each rule was used, unless the call is refused
+abbrev pub usesIn : After → Option (List ℕ)
+usesIn (After.after (Reply.refused number place) r area work) = none
+usesIn (After.after (Reply.answered done) r area work) = some (countsOf r)
+
+abbrev pub usesOf : Asked → (term work : List ℕ) → Option (List ℕ)
+usesOf asked term work = made none usesIn asked term work
+
+abbrev pub someIf : Bool → List ℕ → Option (List ℕ)
+someIf true uses = some uses
+someIf false uses = none
+
+-- the same of what `answer_run` answers
+abbrev pub usesSaid : Answered → Option (List ℕ)
+usesSaid answered = someIf (answered .ran) (answered .«by_rule»)
 
 abbrev pub areaIn : After → List ℕ
 areaIn (After.after reply r area work) = area

@@ -1,5 +1,5 @@
--- The two programs, as functions on the whole of standard input (REQUIREMENTS, Programs): input of another shape than the finishing
--- program's line is refused ahead of finishing's own refusals.
+-- The finishing and the checking program, as functions on the whole of standard input (REQUIREMENTS, Programs): input of another shape
+-- than the finishing program's line is refused ahead of finishing's own refusals.
 use Prim.Native.Nat.{ℕ, _-_}
 use mathlib.Core.Bool.{Bool, true, false}
 use mathlib.Core.List.{List, [], _++_}
@@ -8,7 +8,7 @@ use lib.ListN.{length, take, replicate}
 use Rattle.line_states.specs.Request.{Request, requestOf}
 use Rattle.finish_line.specs.Answer.{numberOf}
 use Rattle.finish_line.specs.declared.Asked.the-variants.{OtherShape}
-use Rattle.finishing.specs.Finishing.{finishingOf}
+use Rattle.finishing.specs.Finishing.{After, finishingOf}
 use Rattle.derivation_files.specs.Checking.{checkingOf}
 use Rattle.answer_lines.specs.Shown.{refusedLine, shownRun, shownCheck}
 
@@ -20,9 +20,14 @@ shapeLine = refusedLine (numberOf OtherShape) 0
 abbrev pub areaWith : (area : ℕ) → List ℕ → List ℕ
 areaWith area bytes = take area bytes ++ replicate (area - length bytes) 0
 
+-- what is made of a line: of one of another shape, or of finishing's answer to what it asks for
+abbrev pub requested : {X : Type 0} → X → (After → X) → Option Request → X
+requested other answered none = other
+requested other answered (some (Request.request fuel area term)) =
+    answered (finishingOf (areaWith area term) (length term) (replicate area 0) fuel)
+
 abbrev pub requestLine : Option Request → List ℕ
-requestLine none = shapeLine
-requestLine (some (Request.request fuel area term)) = shownRun (finishingOf (areaWith area term) (length term) (replicate area 0) fuel)
+requestLine asks = requested shapeLine shownRun asks
 
 -- what the finishing program prints
 unfoldable pub finishProgram : List ℕ → List ℕ

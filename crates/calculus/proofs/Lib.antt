@@ -11,3 +11,4 @@ pub mod Runs
 pub mod Results
 pub mod BellFree
 pub mod Ranges
+pub mod Counts

@@ -9,6 +9,7 @@ pub mod Change
 pub mod Turning
 pub mod Order
 pub mod Run
+pub mod Counts
 pub mod Types
 pub mod Typing
 pub mod Derivation

@@ -1,5 +1,6 @@
 -- The thirteen rules: figure 1's eleven, with its numbers, and two for bells (REQUIREMENTS, Rules).
 use Prim.Native.Nat.{ℕ}
+use mathlib.Core.List.{List, [], _∷_}
 use Rattle.calculus.specs.Bell.{Bell}
 use Rattle.calculus.specs.Term.{Term}
 
@@ -18,3 +19,7 @@ pub data Rule : ℕ → Term → Term → Type 0 where
   rule-11 : {u s r t : Term} → Rule 11 (Term.app (Term.B u s) (Term.B r t)) (Term.B (Term.app (Term.B u s) r) (Term.app (Term.B u s) t))
   rule-12 : {k : Bell} {t : Term} → Rule 12 (Term.app (Term.bell k) t) (Term.H (Term.bell k) t)
   rule-13 : {u s : Term} {k : Bell} → Rule 13 (Term.app (Term.B u s) (Term.bell k)) (Term.bell k)
+
+-- the rules' numbers, in order; `proofs/Ranges.antt` shows that no rule has another, and that a step is made by each of them
+abbrev pub ruleNumbers : List ℕ
+ruleNumbers = 1 ∷ 2 ∷ 3 ∷ 4 ∷ 5 ∷ 6 ∷ 7 ∷ 8 ∷ 9 ∷ 10 ∷ 11 ∷ 12 ∷ 13 ∷ []

@@ -5,8 +5,9 @@ use mathlib.Core.List.{List}
 use Rattle.reading.specs.Reply.{Reply}
 use Rattle.stepping.specs.Stepping as stepping
 use Rattle.finishing.specs.Finishing as finishing
+use Rattle.counting.specs.Counting as counting
 use Rattle.verdicts.specs.Comparing as comparing
-use Rattle.codes.specs.Encoding.{stepNumber, finishNumber, compareNumber, codedStep, codedFinish, codedCompare}
+use Rattle.codes.specs.Encoding.{stepNumber, finishNumber, compareNumber, codedStep, codedFinish, codedCount, codedCompare}
 
 pub coded-step :
     {n : ℕ} {reply : Reply stepping.Stepped} {area work : List ℕ} {end : stepping.After} →
@@ -17,6 +18,11 @@ pub coded-finish :
     {n : ℕ} {reply : Reply Unit} {run : finishing.Ran} {area work : List ℕ} {end : finishing.After} →
     n ≡ finishNumber reply run → finishing.After.after reply run area work ≡ end → (n, area, work) ≡ codedFinish end
 coded-finish {n} {reply} {run} {area} {work} number ended = ap (λ (m : ℕ). (m, area, work)) number ∙ ap codedFinish ended
+
+pub coded-count :
+    {n : ℕ} {reply : Reply Unit} {run : finishing.Ran} {area work counts : List ℕ} {end : counting.After} →
+    n ≡ finishNumber reply run → counting.After.after reply run area work counts ≡ end → (n, area, work, counts) ≡ codedCount end
+coded-count {n} {reply} {run} {area} {work} {counts} number ended = ap (λ (m : ℕ). (m, area, work, counts)) number ∙ ap codedCount ended
 
 pub coded-compare :
     {n : ℕ} {reply : Reply comparing.Compared} {first second work : List ℕ} {end : comparing.After} →

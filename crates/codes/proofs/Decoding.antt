@@ -73,9 +73,9 @@ refused-decoded answer {n = n} {p = p} b c short found =
     wide-refused answer n p low fits
 
 -- beside it the record is that of no run
-pub no-run-decoded : (n p : ℕ) → n < 100 → p < placeLimit → ranIn (encode (Parts.wide n p)) ≡ finishing.noRun
+pub no-run-decoded : (n p : ℕ) (byRule : List ℕ) → n < 100 → p < placeLimit → ranIn (encode (Parts.wide n p)) byRule ≡ finishing.noRun
 unfolding ranIn
-no-run-decoded n p low fits = let (c, q) = wide-parts n p (omega arith) fits in rw (c, lt-ltb n 100 low)
+no-run-decoded n p byRule low fits = let (c, q) = wide-parts n p (omega arith) fits in rw (c, lt-ltb n 100 low)
 
 -- ---- each answer
 
@@ -101,14 +101,14 @@ pub stepped-decoded :
 unfolding decoded steppedIn
 stepped-decoded rule size small fits = let (c, v, s) = narrow-parts 102 rule size (omega arith) small fits in rw (c, v, s)
 
-module _ (count size : ℕ) (small : count < 16777216) (fits : size < 4294967296) where
+module _ (count : ℕ) (byRule : List ℕ) (size : ℕ) (small : count < 16777216) (fits : size < 4294967296) where
   pub run-decoded : (o : Outcome) → decoded admittedIn (encode (Parts.narrow (outcomeCode o) count size)) ≡ Reply.answered tt
   unfolding decoded
   run-decoded Outcome.finished = rw (narrow-parts 110 count size (omega arith) small fits .0)
   run-decoded Outcome.spent = rw (narrow-parts 111 count size (omega arith) small fits .0)
   run-decoded Outcome.no-room = rw (narrow-parts 112 count size (omega arith) small fits .0)
 
-  pub ran-decoded : (o : Outcome) → ranIn (encode (Parts.narrow (outcomeCode o) count size)) ≡ finishing.Ran.ran o count size
+  pub ran-decoded : (o : Outcome) → ranIn (encode (Parts.narrow (outcomeCode o) count size)) byRule ≡ finishing.Ran.ran o count byRule size
   unfolding ranIn outcomeIn
   ran-decoded Outcome.finished = let (c, v, s) = narrow-parts 110 count size (omega arith) small fits in rw (c, v, s)
   ran-decoded Outcome.spent = let (c, v, s) = narrow-parts 111 count size (omega arith) small fits in rw (c, v, s)

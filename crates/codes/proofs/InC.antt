@@ -5,13 +5,18 @@ use native.Mathlib.Omega.{arith}
 use mathlib.Core.Path.{_≡_, refl, ap}
 use mathlib.Core.Bool.{Bool}
 use mathlib.Core.Logic.{⊎-elim}
-use mathlib.Core.List.{List}
-use lib.ListN.{length}
+use mathlib.Core.List.{List, [], _∷_, _++_, map}
+use lib.ListN.{length, drop}
 use Rattle.calculus.specs.Term.{text, size}
-use Rattle.calculus.specs.Run.{run, outcome, count, reached}
+use Rattle.calculus.specs.Rule.{ruleNumbers}
+use Rattle.calculus.specs.Run.{run, outcome, rules, count, reached}
+use Rattle.calculus.specs.Counts.{occurrences, uses}
 use Rattle.calculus.proofs.PrefixCode.{length-text}
 use Rattle.calculus.proofs.Ranges.{change-range}
 use Rattle.calculus.proofs.Runs.{count-fuel, reached-fits}
+use Rattle.calculus.proofs.Counts.{occurrences-few}
+use Rattle.words.specs.Word.{wordLimit, wordsOf}
+use Rattle.words.proofs.Words.{Fit, words-back}
 use Rattle.reading.specs.Reply.{Reply}
 use Rattle.reading.specs.Reading.{readingOf}
 use Rattle.reading.proofs.Numbers.{reading-refused}
@@ -21,6 +26,8 @@ use Rattle.stepping.proofs.Calls as step
 use Rattle.finishing.specs.Finishing as finishing
 use Rattle.finishing.proofs.Calls as finish
 use Rattle.finishing.proofs.Lending.{held-size}
+use Rattle.counting.specs.Counting as counting
+use Rattle.counting.proofs.Calls as counted
 use Rattle.verdicts.specs.Comparing as comparing
 use Rattle.verdicts.proofs.Calls as compare
 use Rattle.derivation_files.specs.Checking.{checkingOf}
@@ -38,6 +45,7 @@ use Rattle.codes.specs.Encoding.{
   matchNumber,
   codedStep,
   codedFinish,
+  codedCount,
   codedCompare,
 }
 use Rattle.codes.specs.Decoding.{
@@ -49,7 +57,10 @@ use Rattle.codes.specs.Decoding.{
   matchIn,
   decodedRead,
   decodedStep,
+  withoutCounts,
+  countsIn,
   decodedFinish,
+  decodedCount,
   decodedCompare,
   decodedCheck,
   decodedMatch,
@@ -92,18 +103,43 @@ step-decoded (step.Call.made t areas held (step.Answers.stepped {rule = rule} {u
 
 finish-decoded :
     {area work : List ℕ} {len fuel : ℕ} {after : finishing.After} →
-    finish.Call area len work fuel after → decodedFinish (codedFinish after) ≡ after
+    finish.Call area len work fuel after → decodedFinish (codedFinish after) ≡ withoutCounts after
 unfolding finishNumber
 finish-decoded (finish.Call.refused {number = n} {place = p} found) =
     let (low, fits) = refused-range (omega arith) (omega arith) (omega arith) found in
-    cc (wide-refused admittedIn n p low fits, no-run-decoded n p low fits)
+    cc (wide-refused admittedIn n p low fits, no-run-decoded n p finishing.noUses low fits)
 finish-decoded {area = area} {fuel = fuel} (finish.Call.made t admits) =
     let r = run fuel (length area) t in
     let end = reached t r in
     let held : size t ≤ length area = omega (arith, admits .areas .within, held-size (admits .held)) in
     let small : count r < 16777216 = omega (arith, count-fuel fuel (length area) t, admits .fuelled) in
     let fits : size end < 4294967296 = omega (arith, reached-fits fuel (length area) t held, admits .areas .short) in
-    cc (run-decoded (count r) (size end) small fits (outcome r), ran-decoded (count r) (size end) small fits (outcome r))
+    let uses = finishing.noUses in
+    cc (run-decoded (count r) uses (size end) small fits (outcome r), ran-decoded (count r) uses (size end) small fits (outcome r))
+
+-- counts of a list that is short enough fit four bytes each
+tally-fits : (used numbers : List ℕ) → length used < wordLimit → Fit (map (λ (n : ℕ). occurrences n used) numbers)
+tally-fits used [] h = tt
+tally-fits used (n ∷ numbers) h = (omega (arith, occurrences-few n used), tally-fits used numbers h)
+
+count-decoded :
+    {area work counts : List ℕ} {len fuel : ℕ} {after : counting.After} →
+    counted.Call area len work fuel counts after → decodedCount (codedCount after) ≡ after
+unfolding finishNumber
+count-decoded {counts = counts} (counted.Call.refused {number = n} {place = p} found) =
+    let (low, fits) = refused-range (omega arith) (omega arith) (omega arith) found in
+    cc (wide-refused admittedIn n p low fits, no-run-decoded n p (countsIn counts) low fits)
+count-decoded {area = area} {counts = counts} {fuel = fuel} (counted.Call.made t room admits) =
+    let r = run fuel (length area) t in
+    let end = reached t r in
+    let held : size t ≤ length area = omega (arith, admits .areas .within, held-size (admits .held)) in
+    let small : count r < 16777216 = omega (arith, count-fuel fuel (length area) t, admits .fuelled) in
+    let fits : size end < 4294967296 = omega (arith, reached-fits fuel (length area) t held, admits .areas .short) in
+    let left : List ℕ = wordsOf (uses r) ++ drop counting.countsSize counts in
+    let back : countsIn left ≡ uses r =
+    words-back (uses r) (drop counting.countsSize counts) (tally-fits (rules r) ruleNumbers (omega arith)) in
+    let seen = countsIn left in
+    cc (run-decoded (count r) seen (size end) small fits (outcome r), ran-decoded (count r) seen (size end) small fits (outcome r), back)
 
 compare-decoded :
     {first second work : List ℕ} {len₁ len₂ fuel : ℕ} {after : comparing.After} →
@@ -137,6 +173,7 @@ in-c =
       read = λ bytes short. read-decoded bytes short (readingOf bytes) refl;
       step = λ area len work. step-decoded (step.call area len work);
       finish = λ area len work fuel. finish-decoded (finish.call area len work fuel);
+      finish-counted = λ area len work fuel counts. count-decoded (counted.call area len work fuel counts);
       compare = λ first len₁ second len₂ work fuel. compare-decoded (compare.call first len₁ second len₂ work fuel);
       check = λ file. check-decoded file (checkingOf file) refl;
       match-claims = λ first second. match-decoded first second (matchingOf first second) refl;

@@ -1,20 +1,23 @@
 -- What a C caller takes from the number of a reply by the header's macros, and that it is what the operation answers (REQUIREMENTS,
 -- C interface). proofs/InC.antt proves it.
-use Prim.Native.Nat.{ℕ, _/_, _%_, _<_}
+use Prim.Native.Nat.{ℕ, _-_, _*_, _/_, _%_, _<_}
 use mathlib.Core.Path.{_≡_}
 use mathlib.Core.Bool.{Bool, cond}
-use mathlib.Core.List.{List}
+use mathlib.Core.List.{List, map}
 use lib.Dec.{ltb, eqb}
-use lib.ListN.{length}
+use lib.ListN.{length, drop}
+use Rattle.calculus.specs.Rule.{ruleNumbers}
 use Rattle.calculus.specs.Run.{Outcome}
 use Rattle.reading.specs.Reply.{Reply}
 use Rattle.reading.specs.Reading.{readingOf}
 use Rattle.stepping.specs.Stepping as stepping
 use Rattle.finishing.specs.Finishing as finishing
+use Rattle.words.specs.Word.{wordIn}
+use Rattle.counting.specs.Counting as counting
 use Rattle.verdicts.specs.Comparing as comparing
 use Rattle.derivation_files.specs.Checking.{checkingOf}
 use Rattle.matching.specs.Matching.{matchingOf}
-use Rattle.codes.specs.Encoding.{placeLimit, readNumber, checkNumber, matchNumber, codedStep, codedFinish, codedCompare}
+use Rattle.codes.specs.Encoding.{placeLimit, readNumber, checkNumber, matchNumber, codedStep, codedFinish, codedCount, codedCompare}
 
 -- ---- the macros of include/controller.h
 
@@ -33,6 +36,10 @@ valuePart reply = reply / 256 % 16777216
 -- CONTROLLER_SIZE
 abbrev pub sizePart : ℕ → ℕ
 sizePart reply = reply / 4294967296
+
+-- CONTROLLER_COUNT
+abbrev pub countPart : (rule : ℕ) (counts : List ℕ) → ℕ
+countPart rule counts = wordIn (drop (4 * (rule - 1)) counts)
 
 -- ---- a reply, taken apart by them
 
@@ -55,9 +62,14 @@ admittedIn reply = tt
 unfoldable pub outcomeIn : ℕ → Outcome
 outcomeIn reply = cond (eqb (codePart reply) 110) Outcome.finished (cond (eqb (codePart reply) 111) Outcome.spent Outcome.no-room)
 
--- the record of the run; beside a refusal there is none
-unfoldable pub ranIn : ℕ → finishing.Ran
-ranIn reply = cond (ltb (codePart reply) 100) finishing.noRun (finishing.Ran.ran (outcomeIn reply) (valuePart reply) (sizePart reply))
+-- how often each rule was used
+abbrev pub countsIn : (counts : List ℕ) → List ℕ
+countsIn counts = map (λ (rule : ℕ). countPart rule counts) ruleNumbers
+
+-- the record of the run, with those counts by rule; beside a refusal there is none
+unfoldable pub ranIn : ℕ → (byRule : List ℕ) → finishing.Ran
+ranIn reply byRule =
+    cond (ltb (codePart reply) 100) finishing.noRun (finishing.Ran.ran (outcomeIn reply) (valuePart reply) byRule (sizePart reply))
 
 -- which answer of comparing
 unfoldable pub comparedIn : ℕ → comparing.Compared
@@ -77,8 +89,18 @@ decodedRead reply = decoded placePart reply
 abbrev pub decodedStep : ℕ × List ℕ × List ℕ → stepping.After
 decodedStep left = stepping.After.after (decoded steppedIn (left .0)) (left .1) (left .2)
 
+-- of a call of controller_finish the counts by rule are not seen
+abbrev pub unseen : finishing.Ran → finishing.Ran
+unseen (finishing.Ran.ran o count byRule size) = finishing.Ran.ran o count finishing.noUses size
+
+abbrev pub withoutCounts : finishing.After → finishing.After
+withoutCounts (finishing.After.after reply r area work) = finishing.After.after reply (unseen r) area work
+
 abbrev pub decodedFinish : ℕ × List ℕ × List ℕ → finishing.After
-decodedFinish left = finishing.After.after (decoded admittedIn (left .0)) (ranIn (left .0)) (left .1) (left .2)
+decodedFinish left = finishing.After.after (decoded admittedIn (left .0)) (ranIn (left .0) finishing.noUses) (left .1) (left .2)
+
+abbrev pub decodedCount : ℕ × List ℕ × List ℕ × List ℕ → counting.After
+decodedCount left = counting.After.after (decoded admittedIn (left .0)) (ranIn (left .0) (countsIn (left .3))) (left .1) (left .2) (left .3)
 
 abbrev pub decodedCompare : ℕ × List ℕ × List ℕ × List ℕ → comparing.After
 decodedCompare left = comparing.After.after (decoded comparedIn (left .0)) (left .1) (left .2) (left .3)
@@ -89,8 +111,9 @@ decodedCheck reply = decoded valuePart reply
 abbrev pub decodedMatch : ℕ → Reply Bool
 decodedMatch reply = decoded matchIn reply
 
--- What the caller sees is what the operation answers and leaves, for every call of the six functions. (What stands in the brackets is what
--- the function leaves, by its contract.) Only reading has a condition: there are fewer than 2 to the 56 bytes.
+-- What the caller sees is what the operation answers and leaves, for every call of the seven functions; `controller_finish` shows all but
+-- the counts by rule. (What stands in the brackets is what the function leaves, by its contract.) Only reading has a condition: there are
+-- fewer than 2 to the 56 bytes.
 pub record InC : Type 0 where
   pub read : (bytes : List ℕ) → length bytes < placeLimit → decodedRead (readNumber (readingOf bytes)) ≡ readingOf bytes
   pub step :
@@ -98,7 +121,10 @@ pub record InC : Type 0 where
       decodedStep (codedStep (stepping.steppingOf area len work)) ≡ stepping.steppingOf area len work
   pub finish :
       (area : List ℕ) (len : ℕ) (work : List ℕ) (fuel : ℕ) →
-      decodedFinish (codedFinish (finishing.finishingOf area len work fuel)) ≡ finishing.finishingOf area len work fuel
+      decodedFinish (codedFinish (finishing.finishingOf area len work fuel)) ≡ withoutCounts (finishing.finishingOf area len work fuel)
+  pub finish-counted :
+      (area : List ℕ) (len : ℕ) (work : List ℕ) (fuel : ℕ) (counts : List ℕ) →
+      decodedCount (codedCount (counting.countingOf area len work fuel counts)) ≡ counting.countingOf area len work fuel counts
   pub compare :
       (first : List ℕ) (len₁ : ℕ) (second : List ℕ) (len₂ : ℕ) (work : List ℕ) (fuel : ℕ) →
       decodedCompare (codedCompare (comparing.comparingOf first len₁ second len₂ work fuel))

@@ -6,6 +6,7 @@ use Rattle.calculus.specs.Run.{Outcome}
 use Rattle.reading.specs.Reply.{Reply}
 use Rattle.stepping.specs.Stepping as stepping
 use Rattle.finishing.specs.Finishing as finishing
+use Rattle.counting.specs.Counting as counting
 use Rattle.verdicts.specs.Comparing as comparing
 
 -- ---- a code and what stands behind it
@@ -47,9 +48,9 @@ outcomeCode Outcome.finished = 110
 outcomeCode Outcome.spent = 111
 outcomeCode Outcome.no-room = 112
 
--- with the count, and the size of the term reached
+-- with the count, and the size of the term reached; the counts by rule have no room in it
 abbrev pub runParts : finishing.Ran → Parts
-runParts (finishing.Ran.ran o count size) = Parts.narrow (outcomeCode o) count size
+runParts (finishing.Ran.ran o count byRule size) = Parts.narrow (outcomeCode o) count size
 
 -- comparing: 113 same, 114 different, 115 undecided
 abbrev pub compareParts : comparing.Compared → Parts
@@ -93,6 +94,9 @@ codedStep (stepping.After.after reply area work) = (stepNumber reply, area, work
 
 abbrev pub codedFinish : finishing.After → ℕ × List ℕ × List ℕ
 codedFinish (finishing.After.after reply r area work) = (finishNumber reply r, area, work)
+
+abbrev pub codedCount : counting.After → ℕ × List ℕ × List ℕ × List ℕ
+codedCount (counting.After.after reply r area work counts) = (finishNumber reply r, area, work, counts)
 
 abbrev pub codedCompare : comparing.After → ℕ × List ℕ × List ℕ × List ℕ
 codedCompare (comparing.After.after reply first second work) = (compareNumber reply, first, second, work)

@@ -3,10 +3,11 @@ ghost use mathlib.Core.Path.{_≡_};
 ghost use Rattle.reading.specs.Reading.{readingOf};
 ghost use Rattle.stepping.specs.Stepping.{steppingOf};
 ghost use Rattle.finishing.specs.Finishing.{finishingOf};
+ghost use Rattle.counting.specs.Counting.{countingOf};
 ghost use Rattle.verdicts.specs.Comparing.{comparingOf};
 ghost use Rattle.derivation_files.specs.Checking.{checkingOf};
 ghost use Rattle.matching.specs.Matching.{matchingOf};
-ghost use Rattle.codes.specs.Encoding.{readNumber, checkNumber, matchNumber, codedStep, codedFinish, codedCompare};
+ghost use Rattle.codes.specs.Encoding.{readNumber, checkNumber, matchNumber, codedStep, codedFinish, codedCount, codedCompare};
 
 // Whether bytes, any number of them, are the text of one term.
 #[no_mangle]
@@ -40,6 +41,24 @@ pub extern "C" fn controller_finish(
     let admission = finishing.admission;
     let run = finishing.run;
     term_numbers::finish_number(admission, run)
+}
+
+// The run of the term in the first `term_size` bytes of the area, and how often it used each rule.
+#[no_mangle]
+pub extern "C" fn controller_finish_counted(
+    area: &mut [u8],
+    term_size: usize,
+    work: &mut [u8],
+    fuel: u64,
+    counts: &mut [u8],
+) -> u64
+    ensures { λ r. ⌜ (r, now (area .exit), now (work .exit), now (counts .exit))
+        ≡ codedCount (countingOf (now (area .entry)) «term_size» (now (work .entry)) fuel (now (counts .entry))) ⌝ }
+{
+    let counting = counting::finish_counted(area, term_size, work, fuel, counts);
+    let counted = counting.counted;
+    let run = counting.run;
+    term_numbers::counted_number(counted, run)
 }
 
 // Whether the terms in the first bytes of two areas have the same result.

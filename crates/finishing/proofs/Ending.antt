@@ -6,6 +6,7 @@ use mathlib.Core.List.{List, [], _∷_, _++_}
 use types.Run.{OneOf}
 use denote.Enum.Declared.{tagOf}
 use lib.ListN.{length, take, replicate}
+use Rattle.calculus.specs.Limits.{fuelLimit}
 use Rattle.calculus.specs.Term.{Term, text, size}
 use Rattle.calculus.specs.Run.{Outcome, run, count, reached}
 use Rattle.calculus.proofs.Runs.{count-fuel}
@@ -24,11 +25,17 @@ use Rattle.finishing.specs.Loop.{Ready, Reaches}
 module _ (area : List ℕ) (len : ℕ) (work : List ℕ) (fuel : ℕ) (a : Admission) (said : replyOf a ≡ admission (admitted area len work fuel)) where
   -- a refusal
   pub after-refused :
-      OneOf (0 ∷ 1 ∷ 2 ∷ 3 ∷ 4 ∷ []) (tagOf the-type a) → After.after (replyOf a) noRun area work ≡ finishingOf area len work fuel
+      (o : Outcome) (made : ℕ) (counts : List ℕ) (size′ : ℕ) → Ran.ran o made counts size′ ≡ noRun →
+      OneOf (0 ∷ 1 ∷ 2 ∷ 3 ∷ 4 ∷ []) (tagOf the-type a) →
+      (After.after (replyOf a) (Ran.ran o made counts size′) area work ≡ finishingOf area len work fuel) × (made ≤ fuel)
   unfolding finishingOf
-  after-refused k =
+  after-refused o made counts size′ none k =
       let (n, p, e, f) = said-refused area len work fuel a said k in
-      ap (λ (r : Reply Unit). After.after r noRun area work) e ∙ sym (ap (λ (x : Reply Term). finishAdmitted x area work fuel) f)
+      let no-steps : made ≡ 0 = cc in (
+        ap₂ (λ (r : Reply Unit) (x : Ran). After.after r x area work) e none
+            ∙ sym (ap (λ (x : Reply Term). finishAdmitted x area work fuel) f),
+        omega arith,
+      )
 
   module _ (k : tagOf the-type a ≡ 5) where
     -- the run can begin
@@ -38,15 +45,20 @@ module _ (area : List ℕ) (len : ℕ) (work : List ℕ) (fuel : ℕ) (a : Admis
         let admits = admitted-held area len work fuel t e in
         record { short = admits .areas .short; room = admits .areas .room; term = t; held = admits .held }
 
+    pub after-fuelled : fuel ≤ fuelLimit
+    after-fuelled =
+        let (t, e) = said-admitted area len work fuel a said k in
+        admitted-held area len work fuel t e .fuelled
+
     -- the run was made
     pub after-run :
-        (o : Outcome) (made size′ : ℕ) (area₁ work₁ area₂ work₂ : List ℕ) →
-        ((t : Term) → Holds area len t → Reaches t (run fuel (length area) t) (Ran.ran o made size′) area₁) →
+        (o : Outcome) (made : ℕ) (counts : List ℕ) (size′ : ℕ) (area₁ work₁ area₂ work₂ : List ℕ) →
+        ((t : Term) → Holds area len t → Reaches t (run fuel (length area) t) (Ran.ran o made counts size′) area₁) →
         length area₁ ≡ length area → length work₁ ≡ length work →
         area₂ ≡ take size′ area₁ ++ replicate (length area₁ - size′) 0 → work₂ ≡ replicate (length work₁) 0 →
-        (After.after (replyOf a) (Ran.ran o made size′) area₂ work₂ ≡ finishingOf area len work fuel) × (made ≤ fuel)
+        (After.after (replyOf a) (Ran.ran o made counts size′) area₂ work₂ ≡ finishingOf area len work fuel) × (made ≤ fuel)
     unfolding finishingOf
-    after-run o made size′ area₁ work₁ area₂ work₂ reach long wide z w =
+    after-run o made counts size′ area₁ work₁ area₂ work₂ reach long wide z w =
         let (t, e) = said-admitted area len work fuel a said k in
         let r = run fuel (length area) t in
         let end = reached t r in

@@ -11,4 +11,4 @@ outcomeOf Spent = Outcome.spent
 outcomeOf NoRoom = Outcome.no-room
 
 abbrev pub ranOf : Run → Ran
-ranOf r = Ran.ran (outcomeOf (r .outcome)) (r .count) (r .size)
+ranOf r = Ran.ran (outcomeOf (r .outcome)) (r .count) (r .«by_rule») (r .size)

@@ -1,14 +1,15 @@
 -- What one pass of finishing's loop asks of the areas, and what it leaves.
 -- (REQUIREMENTS, Finishing).
-use Prim.Native.Nat.{ℕ, _≤_, _<_}
+use Prim.Native.Nat.{ℕ, _+_, _-_, _≤_, _<_}
 use mathlib.Core.Path.{_≡_}
 use mathlib.Core.Bool.{Bool}
 use mathlib.Core.List.{List}
 use lib.Dec.{ltb}
-use lib.ListN.{length}
-use Rattle.calculus.specs.Limits.{areaLimit}
+use lib.ListN.{length, getD, set}
+use Rattle.calculus.specs.Limits.{areaLimit, fuelLimit}
 use Rattle.calculus.specs.Letter.{Letter, byte}
 use Rattle.calculus.specs.Term.{Term, size}
+use Rattle.calculus.specs.Rule.{ruleNumbers}
 use Rattle.calculus.specs.Order.{Next, next}
 use Rattle.calculus.specs.Run.{Run, reached}
 use Rattle.slices.specs.Find.{indexOf}
@@ -27,6 +28,16 @@ pub record Ready (area : List ℕ) (len : ℕ) (work : List ℕ) : Type 0 where
   pub room : length area ≤ length work
   pub term : Term
   pub held : Holds area len term
+
+-- counts by rule of which that rule's can take one more
+pub record Countable (counts : List ℕ) (rule : ℕ) : Type 0 where
+  pub first : 1 ≤ rule
+  pub last : rule ≤ length ruleNumbers
+  pub few : getD counts (rule - 1) 0 < fuelLimit
+
+-- the counts with one more in that rule's
+abbrev pub bumped : (counts : List ℕ) (rule : ℕ) → List ℕ
+bumped counts rule = set counts (rule - 1) (getD counts (rule - 1) 0 + 1)
 
 -- `StepsOn area area′ t reply`: what comes next after t, where the area goes from the one to the other
 pub data StepsOn (area area′ : List ℕ) (t : Term) : Reply Stepped → Type 0 where

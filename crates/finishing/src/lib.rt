@@ -4,14 +4,15 @@ use stepping::Stepping;
 ghost use mathlib.Core.Path.{_≡_};
 ghost use Prim.Native.Nat.{_≤_, _*_, min};
 ghost use lib.ListN.{length};
+ghost use Rattle.calculus.specs.Limits.{fuelLimit};
 ghost use Rattle.calculus.specs.Term.{Term};
 ghost use Rattle.calculus.specs.Run.{run};
 ghost use Rattle.stepping.specs.Held.{Holds};
 ghost use Rattle.stepping.specs.Answer.{answerOf};
 ghost use Rattle.admission.specs.Answer.{replyOf};
-ghost use Rattle.finishing.specs.Finishing.{After, finishingOf};
+ghost use Rattle.finishing.specs.Finishing.{After, noRun, finishingOf};
 ghost use Rattle.finishing.specs.Answer.{ranOf};
-ghost use Rattle.finishing.specs.Loop.{hasStop, Ready, StepsOn, Reaches};
+ghost use Rattle.finishing.specs.Loop.{hasStop, Ready, Countable, bumped, StepsOn, Reaches};
 
 // How a run ends.
 pub enum Outcome {
@@ -20,17 +21,30 @@ pub enum Outcome {
     NoRoom,
 }
 
-// The record of a run: its outcome, the count of steps made, and the size of the term reached.
+// The record of a run: its outcome, the count of steps made, how often each rule was used, rule 1 first, and the size of the term reached.
 pub struct Run {
     pub outcome: Outcome,
     pub count: u64,
+    pub by_rule: [u32; calculus::RULES],
     pub size: usize,
 }
 
-// What finishing answers. Beside a refusal the record is spent, 0, 0.
+// What finishing answers. Beside a refusal the record is spent, and all its numbers are 0.
 pub struct Finishing {
     pub admission: Admission,
     pub run: Run,
+}
+
+// The record that stands beside a refusal.
+pub fn no_run() -> Run
+    ensures { λ r. ⌜ ranOf r ≡ noRun ⌝ }
+{
+    Run {
+        outcome: Outcome::Spent,
+        count: 0,
+        by_rule: [0; calculus::RULES],
+        size: 0,
+    }
 }
 
 // How much of an area of `whole` bytes the next term can need: twice the size of the term, at most all of it.
@@ -59,30 +73,47 @@ fn step_once(area: &mut [u8], size: usize, work: &mut [u8]) -> Stepping
     stepping::step(&mut area[..n], size, &mut work[..n])
 }
 
+// The counts with one use more of that rule.
+fn used_once(by_rule: [u32; calculus::RULES], rule: u8) -> [u32; calculus::RULES]
+    requires { ⌜ Countable «by_rule» rule ⌝ }
+    ensures { λ r. ⌜ r ≡ bumped «by_rule» rule ⌝ }
+{
+    let place = rule as usize - 1;
+    let mut counts = by_rule;
+    counts[place] += 1;
+    counts
+}
+
 // The run of the term in the first `len` bytes; what stands behind the term reached, and in the work area, is left.
 fn run_term(area: &mut [u8], len: usize, work: &mut [u8], fuel: u64) -> Run
     requires { ⌜ Ready (now area) len (now work) ⌝ }
+    requires { ⌜ fuel ≤ fuelLimit ⌝ }
     ensures { λ r. ⌜ ((t : Term) → Holds (now (area .entry)) len t
         → Reaches t (run fuel (length (now (area .entry))) t) (ranOf r) (now (area .exit))) ⌝ }
 {
     let mut size = len;
     let mut count: u64 = 0;
+    let mut by_rule = [0u32; calculus::RULES];
     while count < fuel {
         let stepping = step_once(area, size, work);
         if let Stepping::NoRoom(_) = stepping {
             return Run {
                 outcome: Outcome::NoRoom,
                 count,
+                by_rule,
                 size,
             };
         }
-        let Stepping::Done(_, next) = stepping else {
+        let Stepping::Done(rule, next) = stepping else {
             return Run {
                 outcome: Outcome::Finished,
                 count,
+                by_rule,
                 size,
             };
         };
+        let more = used_once(by_rule, rule);
+        by_rule = more;
         size = next;
         count += 1;
     }
@@ -90,12 +121,14 @@ fn run_term(area: &mut [u8], len: usize, work: &mut [u8], fuel: u64) -> Run
         return Run {
             outcome: Outcome::Spent,
             count,
+            by_rule,
             size,
         };
     }
     Run {
         outcome: Outcome::Finished,
         count,
+        by_rule,
         size,
     }
 }
@@ -109,11 +142,7 @@ pub fn finish(area: &mut [u8], len: usize, work: &mut [u8], fuel: u64) -> Finish
     let Admission::Admitted = admission else {
         return Finishing {
             admission,
-            run: Run {
-                outcome: Outcome::Spent,
-                count: 0,
-                size: 0,
-            },
+            run: no_run(),
         };
     };
     let run = run_term(area, len, work, fuel);

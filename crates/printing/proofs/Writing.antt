@@ -44,11 +44,21 @@ written (field ∷ other ∷ fields) {at} {end} {dst} {dst′} room (Fields.next
     rw append-snoc at (wrote-then first others)
 
 -- fields that have room are appended as one line
+pub row-appended-at :
+    (fields : List (List ℕ)) (at : ℕ) (dst : List ℕ) {end : ℕ} {dst′ : List ℕ} →
+    at + total fields ≤ length dst → Fields fields at dst end dst′ →
+    Appends at (rowOf fields) dst end dst′
+row-appended-at fields at dst room e = appended at (rowOf fields) dst (written fields room e)
+
+-- and where they have none, nothing is
+pub row-none-at : (fields : List (List ℕ)) (at : ℕ) (dst : List ℕ) → length dst < at + total fields → Appends at (rowOf fields) dst at dst
+row-none-at fields at dst short = appends-none at (rowOf fields) dst (omega (arith, length-row fields))
+
+-- the same at the start
 pub row-appended :
     (fields : List (List ℕ)) (dst : List ℕ) {end : ℕ} {dst′ : List ℕ} → total fields ≤ length dst → Fields fields 0 dst end dst′ →
     Appends 0 (rowOf fields) dst end dst′
-row-appended fields dst room e = appended 0 (rowOf fields) dst (written fields (omega arith) e)
+row-appended fields dst room e = row-appended-at fields 0 dst (omega arith) e
 
--- and where they have none, nothing is
 pub row-none : (fields : List (List ℕ)) (dst : List ℕ) → length dst < total fields → Appends 0 (rowOf fields) dst 0 dst
-row-none fields dst short = appends-none 0 (rowOf fields) dst (omega (arith, length-row fields))
+row-none fields dst short = row-none-at fields 0 dst (omega arith)

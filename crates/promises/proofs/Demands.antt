@@ -1,15 +1,16 @@
 -- The demands hold: each by the cases of a call, which `Calls` of each operation's crate has, and by what holds of every run. Assumes nothing.
-use Prim.Native.Nat.{ℕ, _<_}
+use Prim.Native.Nat.{ℕ, _≤_, _<_}
 use mathlib.Core.Path.{_≡_, refl, sym, _∙_, ap, subst, subst₂}
 use mathlib.Core.Logic.{_↔_, _⊎_, inl, inr, ⊎-elim}
-use mathlib.Core.List.{List}
-use lib.ListN.{length, take}
+use mathlib.Core.List.{List, _++_}
+use lib.ListN.{length, take, drop}
 use lib.Seq.{take-at}
 use Rattle.calculus.specs.Term.{Term, text, size, Normal}
 use Rattle.calculus.specs.Order.{Step}
 use Rattle.calculus.specs.Turning.{Turn}
 use Rattle.calculus.specs.Run.{Outcome, run, reached}
 use Rattle.calculus.proofs.PrefixCode.{length-text}
+use Rattle.calculus.proofs.Counts.{uses-total}
 use Rattle.reading.specs.Reply.{Reply}
 use Rattle.reading.specs.Reading.{ReadsAs}
 use Rattle.reading.proofs.Numbers.{reading-refused}
@@ -21,6 +22,9 @@ use Rattle.stepping.proofs.Calls as step
 use Rattle.finishing.specs.Finishing as finishing
 use Rattle.finishing.proofs.Calls as finish
 use Rattle.finishing.proofs.RunOf.{run-of, run-finishes, results-exactly, run-keeps}
+use Rattle.words.specs.Word.{wordsOf}
+use Rattle.counting.specs.Counting as counting
+use Rattle.counting.proofs.Calls as counted
 use Rattle.verdicts.specs.Comparing as comparing
 use Rattle.verdicts.proofs.Calls as compare
 use Rattle.derivation_files.specs.Checks.{ChecksAs}
@@ -60,13 +64,13 @@ step-no-room (step.Call.made t areas held (step.Answers.no-room {rule = rule} {u
 finish-refused :
     {area work area′ work′ : List ℕ} {len fuel number place : ℕ} {r : finishing.Ran} →
     finish.Call area len work fuel (finishing.After.after (Reply.refused number place) r area′ work′) →
-    FinishRefuses len number place × (area′ ≡ area) × (work′ ≡ work)
-finish-refused (finish.Call.refused m) = (m, refl, refl)
+    FinishRefuses len number place × (r ≡ finishing.noRun) × (area′ ≡ area) × (work′ ≡ work)
+finish-refused (finish.Call.refused m) = (m, refl, refl, refl)
 
 finish-ran :
-    {area work area′ work′ : List ℕ} {len fuel n s : ℕ} {o : Outcome} →
-    finish.Call area len work fuel (finishing.After.after (Reply.answered tt) (finishing.Ran.ran o n s) area′ work′) →
-    RanTo area len work fuel o n s area′ work′
+    {area work area′ work′ : List ℕ} {len fuel n s : ℕ} {k : List ℕ} {o : Outcome} →
+    finish.Call area len work fuel (finishing.After.after (Reply.answered tt) (finishing.Ran.ran o n k s) area′ work′) →
+    RanTo area len work fuel o n k s area′ work′
 finish-ran {area = area} {fuel = fuel} (finish.Call.made t admits) =
     record {
       start = t;
@@ -75,10 +79,25 @@ finish-ran {area = area} {fuel = fuel} (finish.Call.made t admits) =
       run-of = run-of (admits .admits);
       ends = refl;
       counted = refl;
+      used = refl;
+      together = uses-total fuel (length area) t;
       sized = refl;
       area-holds = refl;
       work-cleared = refl;
     }
+
+count-refused :
+    {area work counts area′ work′ counts′ : List ℕ} {len fuel number place : ℕ} {r : finishing.Ran} →
+    counted.Call area len work fuel counts (counting.After.after (Reply.refused number place) r area′ work′ counts′) →
+    FinishRefuses len number place × (r ≡ finishing.noRun) × (area′ ≡ area) × (work′ ≡ work) × (counts′ ≡ counts)
+count-refused (counted.Call.refused m) = (m, refl, refl, refl, refl)
+
+count-ran :
+    {area work counts area′ work′ counts′ : List ℕ} {len fuel n s : ℕ} {k : List ℕ} {o : Outcome} →
+    counted.Call area len work fuel counts (counting.After.after (Reply.answered tt) (finishing.Ran.ran o n k s) area′ work′ counts′) →
+    RanTo area len work fuel o n k s area′ work′ ×
+    (counting.countsSize ≤ length counts) × (counts′ ≡ wordsOf k ++ drop counting.countsSize counts)
+count-ran {area = area} (counted.Call.made t room admits) = (finish-ran (finish.Call.made t admits), room, refl)
 
 compare-ran :
     {first second work first′ second′ work′ : List ℕ} {len₁ len₂ fuel : ℕ} {c : comparing.Compared} →
@@ -109,7 +128,7 @@ compare-refused (compare.Call.second-refused m) = (inr m, refl, refl, refl)
 
 -- the area of a run that is not refused holds the text of the term reached at its start
 reached-text :
-    {area work area′ work′ : List ℕ} {len fuel n s : ℕ} {o : Outcome} (r : RanTo area len work fuel o n s area′ work′) →
+    {area work area′ work′ : List ℕ} {len fuel n s : ℕ} {k : List ℕ} {o : Outcome} (r : RanTo area len work fuel o n k s area′ work′) →
     take s area′ ≡ text (reached (r .start) (r .run))
 reached-text {s = s} r =
     let left = reached (r .start) (r .run) in
@@ -117,8 +136,9 @@ reached-text {s = s} r =
 
 -- the results of two finished runs are equal exactly when their first terms turn into each other
 results-of :
-    {area₁ work₁ area₁′ work₁′ area₂ work₂ area₂′ work₂′ : List ℕ} {len₁ fuel₁ n₁ s₁ len₂ fuel₂ n₂ s₂ : ℕ}
-    (r₁ : RanTo area₁ len₁ work₁ fuel₁ Outcome.finished n₁ s₁ area₁′ work₁′) (r₂ : RanTo area₂ len₂ work₂ fuel₂ Outcome.finished n₂ s₂ area₂′ work₂′) →
+    {area₁ work₁ area₁′ work₁′ area₂ work₂ area₂′ work₂′ : List ℕ} {len₁ fuel₁ n₁ s₁ len₂ fuel₂ n₂ s₂ : ℕ} {k₁ k₂ : List ℕ}
+    (r₁ : RanTo area₁ len₁ work₁ fuel₁ Outcome.finished n₁ k₁ s₁ area₁′ work₁′)
+    (r₂ : RanTo area₂ len₂ work₂ fuel₂ Outcome.finished n₂ k₂ s₂ area₂′ work₂′) →
     (take s₁ area₁′ ≡ take s₂ area₂′) ↔ Turn (r₁ .start) (r₂ .start)
 results-of r₁ r₂ =
     let exactly = results-exactly (r₁ .run-of) (r₂ .run-of) (r₁ .ends) (r₂ .ends) in
@@ -126,10 +146,10 @@ results-of r₁ r₂ =
 
 -- a finished call of finishing ran
 ran-of :
-    (area work area′ work′ : List ℕ) (len fuel : ℕ) (o : Outcome) (n s : ℕ) →
-    finishing.finishingOf area len work fuel ≡ finishing.After.after (Reply.answered tt) (finishing.Ran.ran o n s) area′ work′ →
-    RanTo area len work fuel o n s area′ work′
-ran-of area work area′ work′ len fuel o n s e = finish-ran (subst (finish.Call area len work fuel) e (finish.call area len work fuel))
+    (area work area′ work′ : List ℕ) (len fuel : ℕ) (o : Outcome) (n : ℕ) (k : List ℕ) (s : ℕ) →
+    finishing.finishingOf area len work fuel ≡ finishing.After.after (Reply.answered tt) (finishing.Ran.ran o n k s) area′ work′ →
+    RanTo area len work fuel o n k s area′ work′
+ran-of area work area′ work′ len fuel o n k s e = finish-ran (subst (finish.Call area len work fuel) e (finish.call area len work fuel))
 
 pub demands : Demands
 demands =
@@ -138,6 +158,9 @@ demands =
       stepping-refuses = λ area work area′ work′ len number place e. step-refused (subst (step.Call area len work) e (step.call area len work));
       finishing-refuses =
           λ area work area′ work′ len fuel number place r e. finish-refused (subst (finish.Call area len work fuel) e (finish.call area len work fuel));
+      counting-refuses =
+          λ area work counts area′ work′ counts′ len fuel number place r e.
+          count-refused (subst (counted.Call area len work fuel counts) e (counted.call area len work fuel counts));
       comparing-refuses =
           λ first second work first′ second′ work′ len₁ len₂ fuel number place e.
           compare-refused (subst (compare.Call first len₁ second len₂ work fuel) e (compare.call first len₁ second len₂ work fuel));
@@ -152,6 +175,9 @@ demands =
       normal = λ area work area′ work′ len s e. step-normal (subst (step.Call area len work) e (step.call area len work));
       no-room = λ area work area′ work′ len s e. step-no-room (subst (step.Call area len work) e (step.call area len work));
       ran = ran-of;
+      counted =
+          λ area work counts area′ work′ counts′ len fuel o n k s e.
+          count-ran (subst (counted.Call area len work fuel counts) e (counted.call area len work fuel counts));
       compared =
           λ first second work first′ second′ work′ len₁ len₂ fuel c e.
           compare-ran (subst (compare.Call first len₁ second len₂ work fuel) e (compare.call first len₁ second len₂ work fuel));
@@ -164,9 +190,9 @@ demands =
       laid-out = λ j earlier. laid-out;
       matched = λ first second G D t u W X. match-exactly;
       equal-exactly =
-          λ area₁ work₁ area₁′ work₁′ area₂ work₂ area₂′ work₂′ len₁ fuel₁ n₁ s₁ len₂ fuel₂ n₂ s₂ t u held₁ held₂ e₁ e₂.
-          let r₁ = ran-of area₁ work₁ area₁′ work₁′ len₁ fuel₁ Outcome.finished n₁ s₁ e₁ in
-          let r₂ = ran-of area₂ work₂ area₂′ work₂′ len₂ fuel₂ Outcome.finished n₂ s₂ e₂ in
+          λ area₁ work₁ area₁′ work₁′ area₂ work₂ area₂′ work₂′ len₁ fuel₁ n₁ s₁ len₂ fuel₂ n₂ s₂ k₁ k₂ t u held₁ held₂ e₁ e₂.
+          let r₁ = ran-of area₁ work₁ area₁′ work₁′ len₁ fuel₁ Outcome.finished n₁ k₁ s₁ e₁ in
+          let r₂ = ran-of area₂ work₂ area₂′ work₂′ len₂ fuel₂ Outcome.finished n₂ k₂ s₂ e₂ in
           subst₂ (λ (x y : Term). (take s₁ area₁′ ≡ take s₂ area₂′) ↔ Turn x y)
           (step.held-unique area₁ len₁ (r₁ .start) t (r₁ .held) held₁)
           (step.held-unique area₂ len₂ (r₂ .start) u (r₂ .held) held₂)

@@ -6,13 +6,14 @@ use Prim.Native.Nat.{ℕ, _≤_, _<_, min}
 use mathlib.Core.Path.{_≡_}
 use mathlib.Core.Bool.{true}
 use mathlib.Core.Logic.{_↔_, _⊎_}
-use mathlib.Core.List.{List, [], _∷_, List·Memᴰ}
-use lib.ListN.{length, take}
+use mathlib.Core.List.{List, [], _∷_, _++_, List·Memᴰ}
+use lib.ListN.{length, take, drop}
 use Rattle.calculus.specs.Limits.{areaLimit, lineLimit}
 use Rattle.calculus.specs.Term.{Term, text, size, Normal}
 use Rattle.calculus.specs.Order.{Step}
 use Rattle.calculus.specs.Turning.{Turn}
 use Rattle.calculus.specs.Run.{Outcome, Run, outcome, count, terms, reached}
+use Rattle.calculus.specs.Counts.{uses, total}
 use Rattle.calculus.specs.Types.{Context, Ty}
 use Rattle.calculus.specs.Typing.{Judgement}
 use Rattle.calculus.specs.Derivation.{Derivation, Derivable}
@@ -24,6 +25,8 @@ use Rattle.stepping.specs.Held.{Holds}
 use Rattle.stepping.specs.Stepping as stepping
 use Rattle.finishing.specs.Finishing as finishing
 use Rattle.finishing.specs.RunOf.{RunOf}
+use Rattle.words.specs.Word.{wordsOf}
+use Rattle.counting.specs.Counting as counting
 use Rattle.verdicts.specs.Comparing as comparing
 use Rattle.derivation_files.specs.Checking.{checkingOf}
 use Rattle.derivation_files.specs.Checks.{ChecksAs}
@@ -56,17 +59,21 @@ pub record SteppedTo (area : List ℕ) (len : ℕ) (work : List ℕ) (rule s : �
   pub area-holds : area′ ≡ holding next area
   pub work-cleared : work′ ≡ cleared work
 
--- what finishing did: a run, of which it answers the outcome and the count
-pub record RanTo (area : List ℕ) (len : ℕ) (work : List ℕ) (fuel : ℕ) (o : Outcome) (n s : ℕ) (area′ work′ : List ℕ) : Type 0 where
-  pub start : Term
-  pub run : Run
-  pub held : Holds area len start
-  pub run-of : RunOf area len work fuel start run
-  pub ends : outcome run ≡ o
-  pub counted : count run ≡ n
-  pub sized : size (reached start run) ≡ s
-  pub area-holds : area′ ≡ holding (reached start run) area
-  pub work-cleared : work′ ≡ cleared work
+-- what finishing did: a run, of which it answers the outcome, the count, and how often each rule was used, which together make the count
+pub record RanTo
+    (area : List ℕ) (len : ℕ) (work : List ℕ) (fuel : ℕ) (o : Outcome) (n : ℕ) (k : List ℕ) (s : ℕ) (area′ work′ : List ℕ) : Type 0
+  where
+    pub start : Term
+    pub run : Run
+    pub held : Holds area len start
+    pub run-of : RunOf area len work fuel start run
+    pub ends : outcome run ≡ o
+    pub counted : count run ≡ n
+    pub used : uses run ≡ k
+    pub together : total k ≡ n
+    pub sized : size (reached start run) ≡ s
+    pub area-holds : area′ ≡ holding (reached start run) area
+    pub work-cleared : work′ ≡ cleared work
 
 -- what comparing did: a run of each term, whose results it compares
 pub record ComparedTo
@@ -86,7 +93,7 @@ pub record ComparedTo
     pub work-cleared : work′ ≡ cleared work
 
 pub record Demands : Type 0 where
-  -- ---- 1: a reply is a listed one, and a refusal changes no lent byte
+  -- ---- 1: a reply is a listed one, and a refusal changes no lent byte; the record beside it is that of no run
   pub reading-refuses :
       (bytes : List ℕ) (number place : ℕ) → readingOf bytes ≡ Reply.refused number place → Refuses [] (5 ∷ 6 ∷ 7 ∷ []) 0 (length bytes) number place
   pub stepping-refuses :
@@ -96,7 +103,11 @@ pub record Demands : Type 0 where
   pub finishing-refuses :
       (area work area′ work′ : List ℕ) (len fuel number place : ℕ) (r : finishing.Ran) →
       finishing.finishingOf area len work fuel ≡ finishing.After.after (Reply.refused number place) r area′ work′ →
-      FinishRefuses len number place × (area′ ≡ area) × (work′ ≡ work)
+      FinishRefuses len number place × (r ≡ finishing.noRun) × (area′ ≡ area) × (work′ ≡ work)
+  pub counting-refuses :
+      (area work counts area′ work′ counts′ : List ℕ) (len fuel number place : ℕ) (r : finishing.Ran) →
+      counting.countingOf area len work fuel counts ≡ counting.After.after (Reply.refused number place) r area′ work′ counts′ →
+      FinishRefuses len number place × (r ≡ finishing.noRun) × (area′ ≡ area) × (work′ ≡ work) × (counts′ ≡ counts)
   pub comparing-refuses :
       (first second work first′ second′ work′ : List ℕ) (len₁ len₂ fuel number place : ℕ) →
       comparing.comparingOf first len₁ second len₂ work fuel ≡ comparing.After.after (Reply.refused number place) first′ second′ work′ →
@@ -123,9 +134,15 @@ pub record Demands : Type 0 where
       stepping.steppingOf area len work ≡ stepping.After.after (Reply.answered (stepping.Stepped.no-room s)) area′ work′ →
       (t : Term) × (rule : ℕ) × (u : Term) × Holds area len t × Step rule t u × (length area < size u) × (size t ≡ s) × (area′ ≡ holding t area) × (work′ ≡ cleared work)
   pub ran :
-      (area work area′ work′ : List ℕ) (len fuel : ℕ) (o : Outcome) (n s : ℕ) →
-      finishing.finishingOf area len work fuel ≡ finishing.After.after (Reply.answered tt) (finishing.Ran.ran o n s) area′ work′ →
-      RanTo area len work fuel o n s area′ work′
+      (area work area′ work′ : List ℕ) (len fuel : ℕ) (o : Outcome) (n : ℕ) (k : List ℕ) (s : ℕ) →
+      finishing.finishingOf area len work fuel ≡ finishing.After.after (Reply.answered tt) (finishing.Ran.ran o n k s) area′ work′ →
+      RanTo area len work fuel o n k s area′ work′
+  -- with counts it is the same run; what is written is its counts, four bytes each, low byte first, and what stands behind them stays
+  pub counted :
+      (area work counts area′ work′ counts′ : List ℕ) (len fuel : ℕ) (o : Outcome) (n : ℕ) (k : List ℕ) (s : ℕ) →
+      counting.countingOf area len work fuel counts ≡ counting.After.after (Reply.answered tt) (finishing.Ran.ran o n k s) area′ work′ counts′ →
+      RanTo area len work fuel o n k s area′ work′ ×
+      (counting.countsSize ≤ length counts) × (counts′ ≡ wordsOf k ++ drop counting.countsSize counts)
   pub compared :
       (first second work first′ second′ work′ : List ℕ) (len₁ len₂ fuel : ℕ) (c : comparing.Compared) →
       comparing.comparingOf first len₁ second len₂ work fuel ≡ comparing.After.after (Reply.answered c) first′ second′ work′ →
@@ -147,11 +164,11 @@ pub record Demands : Type 0 where
       (matchingOf first second ≡ Reply.answered true) ↔ ((G ≡ D) × (W ≡ X))
   -- ---- 3: equal results exactly when the terms turn into each other, and reduction keeps the claimed type
   pub equal-exactly :
-      (area₁ work₁ area₁′ work₁′ area₂ work₂ area₂′ work₂′ : List ℕ) (len₁ fuel₁ n₁ s₁ len₂ fuel₂ n₂ s₂ : ℕ) (t u : Term) →
+      (area₁ work₁ area₁′ work₁′ area₂ work₂ area₂′ work₂′ : List ℕ) (len₁ fuel₁ n₁ s₁ len₂ fuel₂ n₂ s₂ : ℕ) (k₁ k₂ : List ℕ) (t u : Term) →
       Holds area₁ len₁ t →
       Holds area₂ len₂ u →
-      finishing.finishingOf area₁ len₁ work₁ fuel₁ ≡ finishing.After.after (Reply.answered tt) (finishing.Ran.ran Outcome.finished n₁ s₁) area₁′ work₁′ →
-      finishing.finishingOf area₂ len₂ work₂ fuel₂ ≡ finishing.After.after (Reply.answered tt) (finishing.Ran.ran Outcome.finished n₂ s₂) area₂′ work₂′ →
+      finishing.finishingOf area₁ len₁ work₁ fuel₁ ≡ finishing.After.after (Reply.answered tt) (finishing.Ran.ran Outcome.finished n₁ k₁ s₁) area₁′ work₁′ →
+      finishing.finishingOf area₂ len₂ work₂ fuel₂ ≡ finishing.After.after (Reply.answered tt) (finishing.Ran.ran Outcome.finished n₂ k₂ s₂) area₂′ work₂′ →
       (take s₁ area₁′ ≡ take s₂ area₂′) ↔ Turn t u
   -- the same of any two runs, alone or inside comparing
   pub results-exactly :

@@ -1,4 +1,5 @@
--- The proved examples (REQUIREMENTS, Examples), twelve of the base and nine with bells, as rows of one table over the operations' definitions.
+-- The proved examples (REQUIREMENTS, Examples), twelve of the base, nine with bells and seven with counts, as rows of one table over the
+-- operations' definitions.
 -- proofs/Examples.antt has the proof that covers it. Every expected reply was written by hand from the paper; the rules of examples 1 and 3 to 8, which it does not give, were
 -- worked out by hand from figure 1.
 use Prim.Native.Nat.{ℕ, _-_}
@@ -9,21 +10,27 @@ use lib.ListN.{length, take, replicate}
 use Rattle.calculus.specs.Ascii.{ascii}
 use Rattle.calculus.specs.Term.{Term}
 use Rattle.calculus.specs.Parse.{termOf}
+use Rattle.calculus.specs.Rule.{ruleNumbers}
 use Rattle.calculus.specs.Run.{Outcome, run, rules}
 use Rattle.reading.specs.Reply.{Reply}
 use Rattle.reading.specs.Reading.{readingOf}
 use Rattle.finishing.specs.Finishing.{Ran, After, finishingOf}
+use Rattle.words.specs.Word.{wordsIn}
+use Rattle.counting.specs.Counting as counting
 use Rattle.derivation_files.specs.Checking.{checkingOf}
 
 -- a call of an operation
 pub data Call : Type 0 where
   finish : (term : String) (fuel area : ℕ) → Call
+  finish-counted : (term : String) (fuel area lent : ℕ) → Call
   read : (bytes : String) → Call
   check : (file : String) → Call
 
--- what it answers; of a run also the rules used, in order, and the bytes of the term now in the area
+-- what it answers; of a run also the rules used, in order, and the bytes of the term now in the area; of one with counts what the counts'
+-- bytes say
 pub data Answer : Type 0 where
   ran : Outcome → (count : ℕ) (rules : List ℕ) (term : List ℕ) → Answer
+  mixed : (byRule : List ℕ) → Answer
   size : ℕ → Answer
   accepted : (lines : ℕ) → Answer
   refused : (number place : ℕ) → Answer
@@ -40,6 +47,10 @@ ample-area = 64
 -- a run of a term: with that fuel and area it has that outcome and count, by those rules, and leaves that term
 abbrev pub runs : (term : String) (fuel area : ℕ) → Outcome → (count : ℕ) (rules : List ℕ) (left : String) → Row
 runs term fuel area outcome count rules left = Row.row (Call.finish term fuel area) (Answer.ran outcome count rules (ascii left))
+
+-- a run whose counts are written into so many bytes, each 255 before
+abbrev pub mixes : (term : String) (fuel area lent : ℕ) (byRule : List ℕ) → Row
+mixes term fuel area lent byRule = Row.row (Call.finish-counted term fuel area lent) (Answer.mixed byRule)
 
 abbrev pub rows : List Row
 rows =
@@ -65,6 +76,13 @@ rows =
     Row.row (Call.check "1\t1\tb\tK\t-\t-\n") (Answer.accepted 1) ∷
     Row.row (Call.check "1\t1\ta\tK\t-\t-\n") (Answer.refused 18 1) ∷
     Row.row (Call.check "1\t1\tb\tK\t1\t-\n") (Answer.refused 17 1) ∷
+    mixes ".BII.JRJ" ample-fuel ample-area 52 (1 ∷ 0 ∷ 0 ∷ 0 ∷ 2 ∷ 1 ∷ 1 ∷ 1 ∷ 0 ∷ 0 ∷ 0 ∷ 0 ∷ 0 ∷ []) ∷
+    mixes ".BII.JRJ" 5 ample-area 60 (1 ∷ 0 ∷ 0 ∷ 0 ∷ 1 ∷ 1 ∷ 1 ∷ 1 ∷ 0 ∷ 0 ∷ 0 ∷ 0 ∷ 0 ∷ []) ∷
+    mixes ".BII.JRJ" ample-fuel 11 52 (1 ∷ 0 ∷ 0 ∷ 0 ∷ 0 ∷ 0 ∷ 0 ∷ 0 ∷ 0 ∷ 0 ∷ 0 ∷ 0 ∷ 0 ∷ []) ∷
+    mixes ".AITE" ample-fuel ample-area 52 (0 ∷ 0 ∷ 0 ∷ 1 ∷ 0 ∷ 0 ∷ 0 ∷ 0 ∷ 0 ∷ 0 ∷ 0 ∷ 0 ∷ 1 ∷ []) ∷
+    mixes "J" 0 1 52 (0 ∷ 0 ∷ 0 ∷ 0 ∷ 0 ∷ 0 ∷ 0 ∷ 0 ∷ 0 ∷ 0 ∷ 0 ∷ 0 ∷ 0 ∷ []) ∷
+    Row.row (Call.finish-counted "J" 1_000_001 1 51) (Answer.refused 2 0) ∷
+    Row.row (Call.finish-counted "J" 1_000_001 1 52) (Answer.refused 4 0) ∷
     []
 
 -- an area of that size with the term at its start
@@ -78,7 +96,11 @@ used (some t) fuel area = rules (run fuel area t)
 
 abbrev pub ofFinishing : List ℕ → After → Answer
 ofFinishing rules (After.after (Reply.refused number place) r area work) = Answer.refused number place
-ofFinishing rules (After.after (Reply.answered done) (Ran.ran o count s) area work) = Answer.ran o count rules (take s area)
+ofFinishing rules (After.after (Reply.answered done) (Ran.ran o count byRule s) area work) = Answer.ran o count rules (take s area)
+
+abbrev pub ofCounting : counting.After → Answer
+ofCounting (counting.After.after (Reply.refused number place) r area work counts) = Answer.refused number place
+ofCounting (counting.After.after (Reply.answered done) r area work counts) = Answer.mixed (wordsIn (length ruleNumbers) counts)
 
 abbrev pub ofReading : Reply ℕ → Answer
 ofReading (Reply.refused number place) = Answer.refused number place
@@ -92,6 +114,8 @@ ofChecking (Reply.answered lines) = Answer.accepted lines
 abbrev pub answer : Call → Answer
 answer (Call.finish term fuel area) =
     ofFinishing (used (termOf (ascii term)) fuel area) (finishingOf (areaWith (ascii term) area) (length (ascii term)) (replicate area 0) fuel)
+answer (Call.finish-counted term fuel area lent) =
+    ofCounting (counting.countingOf (areaWith (ascii term) area) (length (ascii term)) (replicate area 0) fuel (replicate lent 255))
 answer (Call.read bytes) = ofReading (readingOf (ascii bytes))
 answer (Call.check file) = ofChecking (checkingOf (ascii file))
 

@@ -16,6 +16,9 @@ use Rattle.admission.specs.Answer as admission
 use Rattle.admission.specs.declared.Admission.{Admission}
 use Rattle.admission.proofs.Admission.{the-type as Admission-type}
 use Rattle.admission.proofs.Answers.{reply-refused}
+use Rattle.counting.specs.Answer as counting
+use Rattle.counting.specs.declared.Counted.{Counted}
+use Rattle.counting.specs.declared.Counted.the-variants as count
 use Rattle.verdicts.specs.Answer as comparing
 use Rattle.verdicts.specs.declared.Comparing.{Comparing}
 use Rattle.verdicts.specs.declared.Comparing.the-variants as compare
@@ -37,6 +40,9 @@ stepping-refusal (step.Done rule size) k = absurd (miss (0 ∷ 1 ∷ 2 ∷ 3 ∷
 
 pub finishing-refusal : (a : Admission) → OneOf (0 ∷ 1 ∷ 2 ∷ 3 ∷ 4 ∷ []) (tagOf Admission-type a) → Refusal (admission.replyOf a)
 finishing-refusal a k = refused-passed (reply-refused a k .2)
+
+pub counting-refusal : {a : Counted} → a ≡ count.CountsTooShort → Refusal (counting.replyOf a)
+counting-refusal e = subst (λ (a : Counted). Refusal (counting.replyOf a)) (sym e) refl
 
 pub comparing-refusal : {a : Comparing} {d : Admission} → a ≡ compare.Refused d → Refusal (comparing.answerOf a)
 comparing-refusal e = subst (λ (a : Comparing). Refusal (comparing.answerOf a)) (sym e) refl

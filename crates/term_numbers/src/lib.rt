@@ -1,5 +1,6 @@
 // The answers of the operations on terms, each as one number for callers in C.
 use admission::Admission;
+use counting::Counted;
 use finishing::Outcome;
 use finishing::Run;
 use reading::Reading;
@@ -10,6 +11,7 @@ ghost use Rattle.reading.specs.Answer.{answerOf as readingAnswer};
 ghost use Rattle.stepping.specs.Answer.{answerOf as steppingAnswer};
 ghost use Rattle.admission.specs.Answer.{replyOf};
 ghost use Rattle.finishing.specs.Answer.{outcomeOf, ranOf};
+ghost use Rattle.counting.specs.Answer.{replyOf as countedReply};
 ghost use Rattle.verdicts.specs.Answer.{answerOf as comparingAnswer};
 ghost use Rattle.codes.specs.Encoding.{outcomeCode, readNumber, stepNumber, finishNumber, compareNumber};
 
@@ -54,6 +56,16 @@ pub fn finish_number(admission: Admission, run: Run) -> u64
     match admission {
         Admission::Admitted => codes::narrow(outcome_code(outcome), run.count as usize, run.size),
         _ => codes::wide(admission::number(admission), admission::place(admission)),
+    }
+}
+
+// The number of the answer of finishing with counts.
+pub fn counted_number(counted: Counted, run: Run) -> u64
+    ensures { λ r. ⌜ r ≡ finishNumber (countedReply counted) (ranOf run) ⌝ }
+{
+    match counted {
+        Counted::CountsTooShort => codes::wide(counting::number(counted), counting::place(counted)),
+        Counted::Finishing(admission) => finish_number(admission, run),
     }
 }
 

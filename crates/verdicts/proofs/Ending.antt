@@ -35,15 +35,16 @@ record Finishes (t : Term) (r : Run) (o : Outcome) (size′ : ℕ) (area work ar
 
 finishes :
     (area : List ℕ) (len : ℕ) (work : List ℕ) (fuel : ℕ) (t : Term) → admitted area len work fuel ≡ Reply.answered t →
-    (reply : Reply Unit) (o : Outcome) (made size′ : ℕ) (area′ work′ : List ℕ) →
-    Finish.after reply (Ran.ran o made size′) area′ work′ ≡ finishingOf area len work fuel →
+    (reply : Reply Unit) (o : Outcome) (made : ℕ) (byRule : List ℕ) (size′ : ℕ) (area′ work′ : List ℕ) →
+    Finish.after reply (Ran.ran o made byRule size′) area′ work′ ≡ finishingOf area len work fuel →
     Finishes t (run fuel (length area) t) o size′ area work area′ work′
 unfolding finishingOf
-finishes area len work fuel t e reply o made size′ area′ work′ is =
+finishes area len work fuel t e reply o made byRule size′ area′ work′ is =
     let r = run fuel (length area) t in
     let end = reached t r in
     let zeros : List ℕ = replicate (length area - size end) 0 in
-    let whole : Finish.after reply (Ran.ran o made size′) area′ work′ ≡ Finish.after (Reply.answered tt) (recordOf t r) (holding end area) (cleared work) =
+    let whole :
+    Finish.after reply (Ran.ran o made byRule size′) area′ work′ ≡ Finish.after (Reply.answered tt) (recordOf t r) (holding end area) (cleared work) =
     is ∙ ap (λ (x : Reply Term). finishAdmitted x area work fuel) e in
     let ends : o ≡ outcome r = cc in
     let sized : size′ ≡ size end = cc in
@@ -107,20 +108,22 @@ module _ (first : List ℕ) (len₁ : ℕ) (second : List ℕ) (len₂ : ℕ) (w
       -- both runs
       pub after-both :
           tagOf the-type b ≡ 5 →
-          (reply₁ reply₂ : Reply Unit) (o₁ o₂ : Outcome) (made₁ made₂ size₁ size₂ : ℕ) (first′ second′ work₁ work₂ : List ℕ) (answer : Reply Compared) →
-          Finish.after reply₁ (Ran.ran o₁ made₁ size₁) first′ work₁ ≡ finishingOf first len₁ work fuel →
-          Finish.after reply₂ (Ran.ran o₂ made₂ size₂) second′ work₂ ≡ finishingOf second len₂ work₁ fuel →
+          (reply₁ reply₂ : Reply Unit) (o₁ o₂ : Outcome) (made₁ made₂ : ℕ) (byRule₁ byRule₂ : List ℕ) (size₁ size₂ : ℕ)
+          (first′ second′ work₁ work₂ : List ℕ) (answer : Reply Compared) →
+          Finish.after reply₁ (Ran.ran o₁ made₁ byRule₁ size₁) first′ work₁ ≡ finishingOf first len₁ work fuel →
+          Finish.after reply₂ (Ran.ran o₂ made₂ byRule₂ size₂) second′ work₂ ≡ finishingOf second len₂ work₁ fuel →
           answer ≡ Reply.answered (verdict o₁ o₂ (part 0 size₁ first′) (part 0 size₂ second′)) →
           Promised first len₁ second len₂ work fuel answer first′ second′ work₂
       unfolding comparingOf
-      after-both k₂ reply₁ reply₂ o₁ o₂ made₁ made₂ size₁ size₂ first′ second′ work₁ work₂ answer is₁ is₂ says =
+      after-both k₂ reply₁ reply₂ o₁ o₂ made₁ made₂ byRule₁ byRule₂ size₁ size₂ first′ second′ work₁ work₂ answer is₁ is₂ says =
           let (t, e) = said-admitted first len₁ work fuel a said₁ k₁ in
           let (u, f) = said-admitted second len₂ work fuel b said₂ k₂ in
           let r = run fuel (length first) t in
           let s = run fuel (length second) u in
-          let one = finishes first len₁ work fuel t e reply₁ o₁ made₁ size₁ first′ work₁ is₁ in
+          let one = finishes first len₁ work fuel t e reply₁ o₁ made₁ byRule₁ size₁ first′ work₁ is₁ in
           let wide : length work₁ ≡ length work = ap length (one .clear) ∙ length-replicate (length work) 0 in
-          let two = finishes second len₂ work₁ fuel u (admitted-work second len₂ work work₁ fuel wide ∙ f) reply₂ o₂ made₂ size₂ second′ work₂ is₂ in
+          let held = admitted-work second len₂ work work₁ fuel wide ∙ f in
+          let two = finishes second len₂ work₁ fuel u held reply₂ o₂ made₂ byRule₂ size₂ second′ work₂ is₂ in
           let clear : work₂ ≡ cleared work = two .clear ∙ ap (λ (n : ℕ). replicate n 0) wide in
           let answered : answer ≡ Reply.answered (verdict (outcome r) (outcome s) (text (reached t r)) (text (reached u s))) =
           says

@@ -7,6 +7,7 @@
 
 mod chart;
 mod checking;
+mod counting;
 mod dear;
 mod growth;
 mod reducing;
@@ -24,6 +25,7 @@ fn everything(picture: Option<String>) {
     let tables = [
         reducing::table(&programs, &nested, &bells),
         growth::table(&nested),
+        counting::table(),
         checking::table(),
         stack::table(),
         dear::table(dear::STEPS),

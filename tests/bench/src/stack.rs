@@ -7,6 +7,7 @@ use harness::deep::{deep_bells, deep_terms};
 use harness::memory::Pages;
 use harness::subject::Controller;
 use second::comparing::Lent;
+use second::counting::COUNTS_SIZE;
 use std::ffi::c_void;
 
 extern "C" {
@@ -83,6 +84,13 @@ fn finishing(mut area: Vec<u8>) -> String {
     })
 }
 
+fn counting(mut area: Vec<u8>) -> String {
+    let (mut work, mut counts) = (vec![0; area.len()], [0; COUNTS_SIZE]);
+    used(move || {
+        Linked.finish_counted(&mut area, work.len(), &mut work, 50, &mut counts);
+    })
+}
+
 fn comparing(mut first: Vec<u8>) -> String {
     let (mut second, mut work) = (first.clone(), vec![0; first.len()]);
     used(move || {
@@ -94,7 +102,7 @@ fn comparing(mut first: Vec<u8>) -> String {
 
 fn term_row(name: &str, text: Vec<u8>) -> Vec<String> {
     let letters = text.len().to_string();
-    let used = [reading(text.clone()), stepping(text.clone()), finishing(text.clone()), comparing(text)];
+    let used = [reading, stepping, finishing, counting, comparing].map(|operation| operation(text.clone()));
     [name.to_string(), letters].into_iter().chain(used).collect()
 }
 
@@ -106,7 +114,8 @@ fn file_row(name: &str, file: Vec<u8>) -> Vec<String> {
     let matching = used(move || {
         Linked.match_claims(&other, &other);
     });
-    vec![name.to_string(), bytes, "-".to_string(), "-".to_string(), checking, matching]
+    let none = || "-".to_string();
+    vec![name.to_string(), bytes, none(), none(), checking, none(), matching]
 }
 
 pub fn table() -> Table {
@@ -118,7 +127,15 @@ pub fn table() -> Table {
     rows.extend::<Vec<_>>(rows_of(deep_bells()));
     Table::new(
         "Bytes of stack that a call of the engine uses",
-        &["term or file", "bytes", "reading", "stepping", "finishing or checking", "comparing or matching"],
+        &[
+            "term or file",
+            "bytes",
+            "reading",
+            "stepping",
+            "finishing or checking",
+            "counted",
+            "comparing or matching",
+        ],
         rows,
     )
 }

@@ -11,7 +11,7 @@ pub struct Case {
     pub fuel: u64,
 }
 
-fn case(name: &str, text: Vec<u8>) -> Case {
+pub fn case(name: &str, text: Vec<u8>) -> Case {
     Case { name: name.to_string(), text, fuel: 1_000_000 }
 }
 

@@ -1,4 +1,4 @@
-//! The engine's six functions as `include/controller.h` declares them, on slices.
+//! The engine's seven functions as `include/controller.h` declares them, on slices.
 
 use harness::subject::Controller;
 use second::comparing::Lent;
@@ -13,6 +13,16 @@ extern "C" {
         work: *mut u8,
         work_size: usize,
         fuel: u64,
+    ) -> u64;
+    fn controller_finish_counted(
+        area: *mut u8,
+        area_size: usize,
+        term_size: usize,
+        work: *mut u8,
+        work_size: usize,
+        fuel: u64,
+        counts: *mut u8,
+        counts_size: usize,
     ) -> u64;
     fn controller_compare(
         first: *mut u8,
@@ -44,6 +54,21 @@ impl Controller for Linked {
 
     fn finish(&self, area: &mut [u8], term: usize, work: &mut [u8], fuel: u64) -> u64 {
         unsafe { controller_finish(area.as_mut_ptr(), area.len(), term, work.as_mut_ptr(), work.len(), fuel) }
+    }
+
+    fn finish_counted(&self, area: &mut [u8], term: usize, work: &mut [u8], fuel: u64, counts: &mut [u8]) -> u64 {
+        unsafe {
+            controller_finish_counted(
+                area.as_mut_ptr(),
+                area.len(),
+                term,
+                work.as_mut_ptr(),
+                work.len(),
+                fuel,
+                counts.as_mut_ptr(),
+                counts.len(),
+            )
+        }
     }
 
     fn compare(&self, first: Lent, second: Lent, work: &mut [u8], fuel: u64) -> u64 {

@@ -7,6 +7,7 @@ use crate::subject::Controller;
 use crate::suite::{Outcome, Suite};
 use crate::table::{checking, reading};
 use crate::terms::{index, joined, repeated};
+use second::machine::Machine;
 
 /// The bytes of stack that the firmware's page advises: 1 MB.
 pub const ADVISED_STACK: usize = 1 << 20;
@@ -72,6 +73,7 @@ fn all_deep_terms() -> Vec<(&'static str, Vec<u8>)> {
 }
 
 type Predict = fn(&Call, Option<u64>) -> Expected;
+type PredictCounted = fn(&Counted) -> AfterCounted;
 
 fn call(text: &[u8], area: usize) -> Call {
     let mut bytes = text.to_vec();
@@ -119,6 +121,25 @@ pub fn reductions(
         });
     }
     suite.test(&format!("{label} deep: text that reading refuses"), || refused(subject, predict));
+}
+
+/// So many steps of a deep run are counted: the runs to their ends are finishing's.
+const COUNTED_STEPS: u64 = 200;
+
+fn counted_run(subject: impl Controller + Sync, text: &[u8], area: usize, predict: PredictCounted) -> Outcome {
+    let counted = Counted { call: call(text, area), fuel: COUNTED_STEPS, counts: vec![b'c'; 60] };
+    let expected = predict(&counted);
+    on_advised_stack(|| demand_counted(&subject, &counted, &expected))
+}
+
+/// Finishing with counts on deep terms, with a reducer that predicts.
+pub fn counts(suite: &mut Suite, label: &str, subject: impl Controller + Sync + Copy, predict: PredictCounted) {
+    for (name, text) in all_deep_terms() {
+        suite.test(&format!("{label} deep counting: {name}"), || {
+            counted_run(subject, &text, text.len(), predict)?;
+            counted_run(subject, &text, 16_384, predict)
+        });
+    }
 }
 
 fn large_files() -> Vec<checking::Row> {
@@ -172,6 +193,7 @@ fn matches(suite: &mut Suite, label: &str, subject: impl Controller + Sync + Cop
 pub fn all(suite: &mut Suite, label: &str, subject: impl Controller + Sync + Copy) {
     readings(suite, label, subject);
     reductions(suite, label, subject, 1_000_000, predict_fast);
+    counts(suite, label, subject, predict_counted::<Machine>);
     comparisons(suite, label, subject);
     files(suite, label, subject);
     matches(suite, label, subject);

@@ -43,6 +43,18 @@ pub fn all(suite: &mut Suite, label: &str, subject: impl Controller) {
     suite.test(&format!("{label} finishing: a work area of 2^32 bytes and a bad term"), || {
         with_huge(OVER, b"w", |work| replied(subject.finish(&mut [b'x'; 3], 1, work, 9), "5@0"))
     });
+    suite.test(&format!("{label} counting: a term area of 2^32 and 1 bytes"), || {
+        let reply = |area: &mut [u8], size| subject.finish_counted(area, 1, &mut [7; 5], 9, &mut [7; 60][..size]);
+        with_huge(OVER + 1, b"J", |area| replied(reply(area, 51), "2@0").and(replied(reply(area, 52), "1@0")))
+    });
+    suite.test(&format!("{label} counting: a work area of 2^32 bytes and a bad fuel"), || {
+        let reply = |work: &mut [u8]| subject.finish_counted(&mut [b'J'; 3], 1, work, 1_000_001, &mut [7; 52]);
+        with_huge(OVER, b"w", |work| replied(reply(work), "4@0"))
+    });
+    suite.test(&format!("{label} counting: a work area of 2^32 bytes and a bad term"), || {
+        let reply = |work: &mut [u8]| subject.finish_counted(&mut [b'x'; 3], 1, work, 9, &mut [7; 52]);
+        with_huge(OVER, b"w", |work| replied(reply(work), "5@0"))
+    });
     suite.test(&format!("{label} comparing: a second area of 2^32 and 1 bytes"), || {
         with_huge(OVER + 1, b"J", |area| {
             let first = Lent { area: &mut [b'J'; 1], length: 1 };

@@ -1,6 +1,6 @@
 //! Lent areas with guard bytes on both sides, and calls whose every lent byte is predicted.
 
-use crate::reply::in_words;
+use crate::reply::{in_words, is_refusal, value};
 use crate::subject::{Controller, Second};
 use crate::suite::{equal, equal_bytes, shown, Outcome};
 use second::comparing::Lent;
@@ -113,6 +113,53 @@ fn described(call: &Call, fuel: Option<u64>) -> String {
 /// Demands that a call replies as the plain reducer predicts.
 pub fn agree(subject: &dyn Controller, call: &Call, fuel: Option<u64>) -> Outcome {
     demand(subject, call, fuel, &predict_plain(call, fuel))
+}
+
+/// A call of finishing with a buffer for the counts.
+#[derive(Clone)]
+pub struct Counted {
+    pub call: Call,
+    pub fuel: u64,
+    pub counts: Vec<u8>,
+}
+
+/// What a counted call replies, and the bytes of the area, the work area and the buffer afterwards.
+pub type AfterCounted = (u64, [Vec<u8>; 3]);
+
+/// What the second implementation replies to a counted call, with one of its reducers.
+pub fn predict_counted<R: Reducer>(counted: &Counted) -> AfterCounted {
+    let Counted { call, fuel, counts } = counted.clone();
+    let (mut area, mut work, mut counts) = (call.area, call.work, counts);
+    let reply = Second::<R>::new().finish_counted(&mut area, call.term, &mut work, fuel, &mut counts);
+    (reply, [area, work, counts])
+}
+
+/// Demands of an answer that its steps are what the thirteen counts make up, four bytes each, low byte first.
+pub fn demand_sum(reply: u64, counts: &[u8]) -> Outcome {
+    if is_refusal(reply) {
+        return Ok(());
+    }
+    let count = |bytes: &[u8]| bytes.iter().rev().fold(0, |so_far, &byte| 256 * so_far + u64::from(byte));
+    equal("steps by the counts", counts[..52].chunks(4).map(count).sum(), value(reply))
+}
+
+/// Calls finishing with counts, and demands the reply, every lent byte, and that the counts make up the steps.
+pub fn demand_counted(subject: &dyn Controller, counted: &Counted, expected: &AfterCounted) -> Outcome {
+    let Counted { call, fuel, counts } = counted;
+    let mut lent = [&call.area, &call.work, counts].map(|bytes| Guarded::new(bytes));
+    let [area, work, buffer] = &mut lent;
+    let reply = subject.finish_counted(area.area(), call.term, work.area(), *fuel, buffer.area());
+    let mut found = equal("reply", in_words(reply), in_words(expected.0));
+    found = found.and_then(|()| demand_sum(reply, lent[2].area()));
+    for (place, what) in ["term area", "work area", "counts"].into_iter().enumerate() {
+        found = found.and_then(|()| lent[place].expect(what, &expected.1[place]));
+    }
+    found.map_err(|what| format!("{what}; on {} counts {}", described(call, Some(*fuel)), counts.len()))
+}
+
+/// Demands that a counted call replies as the plain reducer predicts.
+pub fn agree_counted(subject: &dyn Controller, counted: &Counted) -> Outcome {
+    demand_counted(subject, counted, &predict_counted::<Plain>(counted))
 }
 
 /// Two terms in their areas, a work area and a fuel.

@@ -3,6 +3,7 @@
 pub mod changes;
 pub mod check_tests;
 pub mod compare_tests;
+pub mod count_tests;
 pub mod damage;
 pub mod deep;
 pub mod derivations;
@@ -24,3 +25,4 @@ pub mod table;
 pub mod terms;
 pub mod threads;
 pub mod wrong;
+pub mod wrong_print;

@@ -1,12 +1,12 @@
-//! The two programs, each input given to a process of its own.
+//! The three programs, each input given to a process of its own.
 
 use crate::check_tests::{within_limits, LAYOUTS};
 use crate::damage::damaged;
 use crate::derivations::{file_of, some};
 use crate::random::Random;
 use crate::subject::{Programs, Second};
-use crate::suite::{equal_bytes, shown, Outcome, Suite};
-use crate::table::programs::{check_rows, finish_rows};
+use crate::suite::{equal, equal_bytes, shown, Outcome, Suite};
+use crate::table::programs::{check_rows, finish_rows, mix_rows, Row};
 use crate::terms::random_of_size;
 use second::plain::Plain;
 use std::io::{Read, Write};
@@ -57,12 +57,16 @@ impl Programs for &Processes {
         self.run("finish", input, usize::MAX, Duration::ZERO)
     }
 
+    fn rule_mix(&self, input: &[u8]) -> Result<Vec<u8>, String> {
+        self.run("rule_mix", input, usize::MAX, Duration::ZERO)
+    }
+
     fn check_file(&self, input: &[u8]) -> Result<Vec<u8>, String> {
         self.run("check_file", input, usize::MAX, Duration::ZERO)
     }
 }
 
-/// Demands that exactly this line was printed.
+/// Demands that exactly this was printed.
 fn printed(got: Result<Vec<u8>, String>, wanted: &[u8], input: &[u8]) -> Outcome {
     equal_bytes("printed", &got?, wanted).map_err(|what| format!("{what}; on {}", shown(input)))
 }
@@ -73,6 +77,19 @@ fn with_line_feed(line: &[u8]) -> Vec<u8> {
 
 fn agree_finish(subject: &dyn Programs, input: &[u8]) -> Outcome {
     printed(subject.finish(input), &Programs::finish(&Second::<Plain>::new(), input)?, input)
+}
+
+fn agree_mix(subject: &dyn Programs, input: &[u8]) -> Outcome {
+    printed(subject.rule_mix(input), &Second::<Plain>::new().rule_mix(input)?, input)
+}
+
+/// The first line of rule_mix is what the finishing program prints; thirteen follow unless that is a refusal.
+fn mix_of_finish(subject: &dyn Programs, input: &[u8]) -> Outcome {
+    let (mixed, finished) = (subject.rule_mix(input)?, subject.finish(input)?);
+    let lines: Vec<&[u8]> = mixed.split_inclusive(|&byte| byte == b'\n').collect();
+    let wanted = if finished.starts_with(b"refused") { 1 } else { 14 };
+    let found = equal("lines", lines.len(), wanted).and_then(|()| equal_bytes("first line", lines[0], &finished));
+    found.map_err(|what| format!("{what}; on {}", shown(input)))
 }
 
 fn agree_check(subject: &dyn Programs, input: &[u8]) -> Outcome {
@@ -88,12 +105,13 @@ fn random_line(random: &mut Random) -> Vec<u8> {
     [format!("{fuel}\t{area}\t").as_bytes(), &term, b"\n"].concat()
 }
 
-fn random_lines(subject: &dyn Programs) -> Outcome {
-    let mut random = Random::new(51);
-    for _ in 0..400 {
+/// Tries so many random lines, and as many damaged ones.
+fn random_lines(seed: u64, count: usize, trial: impl Fn(&[u8]) -> Outcome) -> Outcome {
+    let mut random = Random::new(seed);
+    for _ in 0..count {
         let line = random_line(&mut random);
-        agree_finish(subject, &line)?;
-        agree_finish(subject, &damaged(&mut random, &line, b"\t\n0159JRHAIB.ET"))?;
+        trial(&line)?;
+        trial(&damaged(&mut random, &line, b"\t\n0159JRHAIB.ET"))?;
     }
     Ok(())
 }
@@ -120,7 +138,29 @@ pub fn known_finishing(suite: &mut Suite, label: &str, subject: impl Programs) {
 
 /// Lines whose output the plain reducer predicts.
 pub fn predicted_finishing(suite: &mut Suite, label: &str, subject: impl Programs) {
-    suite.test(&format!("{label} finish program: random lines"), || random_lines(&subject));
+    suite.test(&format!("{label} finish program: random lines"), || {
+        random_lines(51, 400, |line| agree_finish(&subject, line))
+    });
+}
+
+/// Inputs of rule_mix whose output is written by hand; short ones of the finishing program, set against it.
+pub fn known_mixing(suite: &mut Suite, label: &str, subject: impl Programs) {
+    for row in mix_rows() {
+        let name = format!("{label} rule_mix program: {}", row.name);
+        suite.test(&name, || printed(subject.rule_mix(&row.input), &with_line_feed(&row.printed), &row.input));
+    }
+    suite.test(&format!("{label} rule_mix program: its first line is the finishing program's"), || {
+        let mut rows = finish_rows().into_iter().filter(|row| row.input.len() <= SHORT);
+        rows.try_for_each(|row| mix_of_finish(&subject, &row.input))?;
+        random_lines(53, 100, |line| mix_of_finish(&subject, line))
+    });
+}
+
+/// Lines whose output the plain reducer predicts.
+pub fn predicted_mixing(suite: &mut Suite, label: &str, subject: impl Programs) {
+    suite.test(&format!("{label} rule_mix program: random lines"), || {
+        random_lines(54, 300, |line| agree_mix(&subject, line))
+    });
 }
 
 /// Inputs of the checking program whose output is written by hand.
@@ -151,32 +191,38 @@ fn redirected(program: &Path, redirection: &str, input: &[u8]) -> Result<[Vec<u8
 }
 
 /// Nothing is printed, and one line on standard error says why.
-fn complains(program: &Path, redirection: &str, input: &[u8]) -> Outcome {
-    let [printed, complaint] = redirected(program, redirection, input)?;
+fn complains(program: &Path, redirection: &str, input: &[u8], complaint: &str) -> Outcome {
+    let [printed, complained] = redirected(program, redirection, input)?;
     equal_bytes("printed", &printed, b"")?;
-    let line_feeds = complaint.iter().filter(|&&byte| byte == b'\n').count();
-    match complaint.strip_suffix(b"\n") {
-        Some(line) if !line.is_empty() && line_feeds == 1 => Ok(()),
-        _ => Err(format!("on standard error stands {} and not one line", shown(&complaint))),
-    }
+    equal_bytes("on standard error", &complained, complaint.as_bytes())
 }
 
 /// Input that cannot be read, and output that cannot be written.
 pub fn failing(suite: &mut Suite, label: &str, program: &str, processes: &Processes) {
     let inputs: [&[u8]; 2] = match program {
-        "finish" => [b"6\t12\t.BII.JRJ\n", b"x"],
+        "finish" | "rule_mix" => [b"6\t12\t.BII.JRJ\n", b"x"],
         _ => [b"1\tI\t1\tI\t-\t-\n", b"x"],
     };
     let streams = [
-        ("input from a folder", "< /"),
-        ("input closed", "<&-"),
-        ("output to a full device", "> /dev/full"),
-        ("output closed", ">&-"),
+        ("input from a folder", "< /", "standard input could not be read"),
+        ("input closed", "<&-", "standard input could not be read"),
+        ("output to a full device", "> /dev/full", "standard output could not be written"),
+        ("output closed", ">&-", "standard output could not be written"),
     ];
-    for (name, redirection) in streams {
+    for (name, redirection, what) in streams {
         suite.test(&format!("{label} {program} program: {name}"), || {
-            inputs.iter().try_for_each(|input| complains(&processes.folder.join(program), redirection, input))
+            let (path, complaint) = (processes.folder.join(program), format!("{program}: {what}\n"));
+            inputs.iter().try_for_each(|input| complains(&path, redirection, input, &complaint))
         });
+    }
+}
+
+/// The rows of a program.
+fn rows_of(program: &str) -> Vec<Row> {
+    match program {
+        "finish" => finish_rows(),
+        "rule_mix" => mix_rows(),
+        _ => check_rows(),
     }
 }
 
@@ -185,7 +231,7 @@ const SHORT: usize = 60;
 
 /// The same rows, given to the process byte by byte, so that it is fed many short pieces.
 pub fn slowly(suite: &mut Suite, label: &str, program: &str, processes: &Processes) {
-    let rows = if program == "finish" { finish_rows() } else { check_rows() };
+    let rows = rows_of(program);
     suite.test(&format!("{label} {program} program: input byte by byte"), || {
         for row in rows.iter().filter(|row| row.input.len() <= SHORT) {
             let got = processes.run(program, &row.input, 1, Duration::from_micros(300));

@@ -2,14 +2,14 @@
 
 use crate::changes::{backwards, forwards};
 use crate::derivations::{after_step, file_of, some, Layout};
-use crate::lent::predict_plain;
+use crate::lent::{predict_counted, predict_plain};
 use crate::random::Random;
 use crate::subject::Second;
 use crate::suite::{equal, equal_bytes, shown, Outcome, Suite};
 use crate::terms::{all_of_size, random_of_size, ALL_BELLS, BELLS, NO_BELLS, TWO_BELLS};
 use crate::{
-    check_tests, compare_tests, deep, finish_tests, huge, match_tests, program_tests, read_tests, small_tests,
-    step_tests,
+    check_tests, compare_tests, count_tests, deep, finish_tests, huge, match_tests, program_tests, read_tests,
+    small_tests, step_tests,
 };
 use second::checking::check;
 use second::finishing::{run, Outcome as End};
@@ -43,7 +43,7 @@ fn runs_of_size_3() -> Outcome {
     for (ends, applications) in [(NO_BELLS, 4), (TWO_BELLS, 16), (ALL_BELLS, 196)] {
         let mut steps = 0;
         for term in all_of_size(3, ends) {
-            let (outcome, count) = run(&mut Plain { term }, 20, 10);
+            let (outcome, count) = run(&mut Plain { term }, 20, 10, |_| ());
             equal("outcome", outcome, End::Finished)?;
             steps += count;
         }
@@ -71,7 +71,7 @@ fn every_small_step() -> Outcome {
 /// The text of a finished run's result.
 fn result(term: &Term) -> Option<Vec<u8>> {
     let mut machine = Machine::start(&term.text());
-    let (outcome, _) = run(&mut machine, 4_000, 2_000);
+    let (outcome, _) = run(&mut machine, 4_000, 2_000, |_| ());
     (outcome == End::Finished).then(|| machine.text())
 }
 
@@ -164,11 +164,14 @@ fn known(suite: &mut Suite) {
     step_tests::known(suite, "fast", fast);
     finish_tests::known(suite, "plain", plain);
     finish_tests::known(suite, "fast", fast);
+    count_tests::known(suite, "plain", plain);
+    count_tests::known(suite, "fast", fast);
     compare_tests::known(suite, "plain", plain);
     compare_tests::known(suite, "fast", fast);
     check_tests::known(suite, "second", plain);
     match_tests::known(suite, "second", plain);
     program_tests::known_finishing(suite, "second", plain);
+    program_tests::known_mixing(suite, "second", plain);
     program_tests::known_checking(suite, "second", plain);
     huge::all(suite, "second", plain);
 }
@@ -176,6 +179,8 @@ fn known(suite: &mut Suite) {
 /// Replies that follow from how the input is made.
 fn made(suite: &mut Suite) {
     let (plain, fast) = (Second::<Plain>::new(), Second::<Machine>::new());
+    count_tests::made(suite, "plain", plain);
+    count_tests::made(suite, "fast", fast);
     read_tests::made(suite, "second", plain);
     check_tests::made(suite, "second", plain);
     match_tests::made(suite, "second", plain);
@@ -188,11 +193,15 @@ fn two_reducers(suite: &mut Suite) {
     let fast = Second::<Machine>::new();
     step_tests::predicted(suite, "fast", fast);
     finish_tests::predicted(suite, "fast", fast);
+    count_tests::predicted(suite, "fast", fast);
     small_tests::predicted(suite, "fast", fast);
     finish_tests::long(suite, "plain", Second::<Plain>::new(), finish_tests::THOUSANDS_OF_STEPS);
+    count_tests::long(suite, "plain", Second::<Plain>::new(), 8, 1_000_000);
     deep::reductions(suite, "fast", fast, 300, predict_plain);
+    deep::counts(suite, "fast", fast, predict_counted::<Plain>);
     compare_tests::predicted(suite, "fast", fast);
     program_tests::predicted_finishing(suite, "fast", fast);
+    program_tests::predicted_mixing(suite, "fast", fast);
 }
 
 pub fn all(suite: &mut Suite) {

@@ -3,24 +3,27 @@
 use crate::reply::*;
 use second::checking;
 use second::comparing::{self, Lent};
+use second::counting;
 use second::finish_line;
 use second::finishing;
 use second::stepping::{self, Reducer};
 use std::marker::PhantomData;
 
-/// The six functions of `include/controller.h`.
+/// The seven functions of `include/controller.h`.
 pub trait Controller {
     fn read(&self, slice: &[u8]) -> u64;
     fn step(&self, area: &mut [u8], term: usize, work: &mut [u8]) -> u64;
     fn finish(&self, area: &mut [u8], term: usize, work: &mut [u8], fuel: u64) -> u64;
+    fn finish_counted(&self, area: &mut [u8], term: usize, work: &mut [u8], fuel: u64, counts: &mut [u8]) -> u64;
     fn compare(&self, first: Lent, second: Lent, work: &mut [u8], fuel: u64) -> u64;
     fn check(&self, file: &[u8]) -> u64;
     fn match_claims(&self, first: &[u8], second: &[u8]) -> u64;
 }
 
-/// The two programs: what each prints for its input.
+/// The three programs: what each prints for its input.
 pub trait Programs {
     fn finish(&self, input: &[u8]) -> Result<Vec<u8>, String>;
+    fn rule_mix(&self, input: &[u8]) -> Result<Vec<u8>, String>;
     fn check_file(&self, input: &[u8]) -> Result<Vec<u8>, String>;
 }
 
@@ -60,6 +63,10 @@ impl<R: Reducer> Controller for Second<R> {
         of_run(finishing::finish::<R>(area, term, work, fuel))
     }
 
+    fn finish_counted(&self, area: &mut [u8], term: usize, work: &mut [u8], fuel: u64, counts: &mut [u8]) -> u64 {
+        of_run(counting::finish_counted::<R>(area, term, work, fuel, counts))
+    }
+
     fn compare(&self, first: Lent, second: Lent, work: &mut [u8], fuel: u64) -> u64 {
         of_verdict(comparing::compare::<R>(first, second, work, fuel))
     }
@@ -79,6 +86,10 @@ impl<R: Reducer> Controller for Second<R> {
 impl<R: Reducer> Programs for Second<R> {
     fn finish(&self, input: &[u8]) -> Result<Vec<u8>, String> {
         Ok(finish_line::finish_program::<R>(input))
+    }
+
+    fn rule_mix(&self, input: &[u8]) -> Result<Vec<u8>, String> {
+        Ok(finish_line::rule_mix_program::<R>(input))
     }
 
     fn check_file(&self, input: &[u8]) -> Result<Vec<u8>, String> {

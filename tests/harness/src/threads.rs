@@ -17,6 +17,7 @@ const ROUNDS: usize = 20;
 /// A call with what the second implementation replies and leaves, worked out before any thread starts.
 enum Asked {
     Run(Call, Option<u64>, Expected),
+    Count(Counted, AfterCounted),
     Compare(Pair, Compared),
     Read(Vec<u8>, u64),
     Check(Vec<u8>, u64),
@@ -27,6 +28,7 @@ impl Asked {
     fn ask(&self, subject: &dyn Controller) -> Outcome {
         match self {
             Asked::Run(call, fuel, expected) => demand(subject, call, *fuel, expected),
+            Asked::Count(counted, expected) => demand_counted(subject, counted, expected),
             Asked::Compare(pair, expected) => demand_pair(subject, pair, expected),
             Asked::Read(slice, reply) => demand_read(subject, slice, *reply),
             Asked::Check(file, reply) => demand_check(subject, file, *reply),
@@ -42,6 +44,13 @@ fn run(random: &mut Random, text: &[u8], fuel: Option<u64>) -> Asked {
     Asked::Run(call, fuel, expected)
 }
 
+fn count(random: &mut Random, text: &[u8]) -> Asked {
+    let call = call_on(random, text, text.len() + 100);
+    let counted = Counted { call, fuel: 300, counts: random.rubbish(60) };
+    let expected = predict_counted::<Plain>(&counted);
+    Asked::Count(counted, expected)
+}
+
 fn compare(random: &mut Random, text: &[u8]) -> Asked {
     let area = [text, &random.rubbish(100)].concat();
     let work = random.rubbish(area.len());
@@ -51,7 +60,7 @@ fn compare(random: &mut Random, text: &[u8]) -> Asked {
     Asked::Compare(pair, expected)
 }
 
-/// One thread's calls: all six functions in turn.
+/// One thread's calls: all seven functions in turn.
 fn calls(seed: u64) -> Vec<Asked> {
     let mut random = Random::new(seed);
     let second = Second::<Plain>::new();
@@ -62,6 +71,7 @@ fn calls(seed: u64) -> Vec<Asked> {
         let file = file_of(&derivation, Layout { shared: true, second_first: false });
         asked.push(run(&mut random, &text, None));
         asked.push(run(&mut random, &text, Some(300)));
+        asked.push(count(&mut random, &text));
         asked.push(compare(&mut random, &text));
         asked.push(Asked::Read(text.clone(), second.read(&text)));
         asked.push(Asked::Check(file.clone(), second.check(&file)));

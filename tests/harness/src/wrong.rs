@@ -5,6 +5,20 @@ use crate::subject::Controller;
 use second::comparing::Lent;
 use std::sync::atomic::{AtomicU64, Ordering};
 
+/// What is lent to a counted call, with its term's size and its fuel.
+pub struct Lending<'a> {
+    area: &'a mut [u8],
+    term: usize,
+    work: &'a mut [u8],
+    fuel: u64,
+    counts: &'a mut [u8],
+}
+
+/// What a subject replies to a counted call.
+fn count(subject: &dyn Controller, lent: Lending) -> u64 {
+    subject.finish_counted(lent.area, lent.term, lent.work, lent.fuel, lent.counts)
+}
+
 pub struct Bug {
     pub name: &'static str,
     /// What becomes of a reply.
@@ -13,20 +27,36 @@ pub struct Bug {
     bytes: fn(u64, &mut [u8], &mut [u8]),
     /// What becomes of the reply to bytes that are read or checked.
     read: fn(&[u8], u64) -> u64,
+    /// What a counted call comes to.
+    count: fn(&dyn Controller, Lending) -> u64,
+    /// What becomes of the counts of an answer, by the reply and the bytes that stood there before.
+    stored: fn(u64, &[u8], &mut [u8]),
 }
+
+/// No bug.
+const NONE: Bug =
+    Bug { name: "", reply: |reply| reply, bytes: kept, read: |_, reply| reply, count, stored: |_, _, _| () };
 
 fn kept(_: u64, _: &mut [u8], _: &mut [u8]) {}
 
 const fn replies(name: &'static str, reply: fn(u64) -> u64) -> Bug {
-    Bug { name, reply, bytes: kept, read: |_, reply| reply }
+    Bug { name, reply, ..NONE }
 }
 
 const fn leaves(name: &'static str, bytes: fn(u64, &mut [u8], &mut [u8])) -> Bug {
-    Bug { name, reply: |reply| reply, bytes, read: |_, reply| reply }
+    Bug { name, bytes, ..NONE }
 }
 
 const fn reads(name: &'static str, read: fn(&[u8], u64) -> u64) -> Bug {
-    Bug { name, reply: |reply| reply, bytes: kept, read }
+    Bug { name, read, ..NONE }
+}
+
+const fn counts(name: &'static str, count: fn(&dyn Controller, Lending) -> u64) -> Bug {
+    Bug { name, count, ..NONE }
+}
+
+const fn stores(name: &'static str, stored: fn(u64, &[u8], &mut [u8])) -> Bug {
+    Bug { name, stored, ..NONE }
 }
 
 /// What becomes of the replies with one of these codes; the others stay.
@@ -104,7 +134,85 @@ fn byte_behind_the_area(reply: u64, area: &mut [u8], _: &mut [u8]) {
     }
 }
 
-static BUGS: [Bug; 24] = [
+/// The bytes of thirteen counts.
+const COUNTS: usize = 52;
+
+/// The last step is made again by itself, so that the counts are its alone.
+fn last_step_counted(subject: &dyn Controller, lent: Lending) -> u64 {
+    let Lending { area, term, work, fuel, counts } = lent;
+    let (mut copy, mut copied_work) = (area.to_vec(), work.to_vec());
+    let reply = subject.finish_counted(area, term, work, fuel, counts);
+    if !is_refusal(reply) && value(reply) > 0 {
+        let before = subject.finish(&mut copy, term, &mut copied_work, value(reply) - 1);
+        subject.finish_counted(&mut copy, size(before), &mut copied_work, 1, counts);
+    }
+    reply
+}
+
+fn counts_cleared_by_a_refusal(subject: &dyn Controller, lent: Lending) -> u64 {
+    let Lending { area, term, work, fuel, counts } = lent;
+    let reply = subject.finish_counted(area, term, work, fuel, counts);
+    if is_refusal(reply) {
+        counts.fill(0);
+    }
+    reply
+}
+
+/// What finishing refuses is refused first, and only then a buffer that is too short.
+fn short_counts_refused_last(subject: &dyn Controller, lent: Lending) -> u64 {
+    let (mut area, mut work) = (lent.area.to_vec(), lent.work.to_vec());
+    let first = subject.finish(&mut area, lent.term, &mut work, lent.fuel);
+    match is_refusal(first) {
+        true => first,
+        false => count(subject, lent),
+    }
+}
+
+/// A short buffer gets as many bytes of the counts as it has room for.
+fn short_counts_taken(subject: &dyn Controller, lent: Lending) -> u64 {
+    if lent.counts.len() >= COUNTS {
+        return count(subject, lent);
+    }
+    let mut whole = [0; COUNTS];
+    let reply = subject.finish_counted(lent.area, lent.term, lent.work, lent.fuel, &mut whole);
+    lent.counts.copy_from_slice(&whole[..lent.counts.len()]);
+    reply
+}
+
+/// The counts of this rule and of the next one change places.
+fn neighbours_exchanged<const RULE: usize>(_: u64, _: &[u8], counts: &mut [u8]) {
+    counts[4 * RULE - 4..4 * RULE + 4].rotate_left(4);
+}
+
+fn added_to_before(_: u64, before: &[u8], counts: &mut [u8]) {
+    counts[..COUNTS].iter_mut().zip(before).for_each(|(byte, old)| *byte = byte.wrapping_add(*old));
+}
+
+fn high_byte_first(_: u64, _: &[u8], counts: &mut [u8]) {
+    counts[..COUNTS].chunks_mut(4).for_each(<[u8]>::reverse);
+}
+
+fn counts_of_16_bits(_: u64, _: &[u8], counts: &mut [u8]) {
+    counts[..COUNTS].chunks_mut(4).for_each(|count| count[2] = 0);
+}
+
+fn byte_behind_the_counts_cleared(_: u64, _: &[u8], counts: &mut [u8]) {
+    counts.iter_mut().skip(COUNTS).take(1).for_each(|byte| *byte = 0);
+}
+
+fn counts_left_without_a_step(reply: u64, before: &[u8], counts: &mut [u8]) {
+    if value(reply) == 0 {
+        counts.copy_from_slice(before);
+    }
+}
+
+fn counts_left_without_room(reply: u64, before: &[u8], counts: &mut [u8]) {
+    if code(reply) == NO_ROOM {
+        counts.copy_from_slice(before);
+    }
+}
+
+static BUGS: [Bug; 37] = [
     replies("5 one place too far", |reply| changed(reply, &[5], |reply| reply + ONE)),
     replies("places of 24 bits", |reply| changed(reply, &[5, 6, 7], |reply| reply & 0xffff_ffff)),
     replies("a size read of 24 bits", |reply| changed(reply, &[WHOLE], |reply| reply & 0xffff_ffff)),
@@ -138,6 +246,19 @@ static BUGS: [Bug; 24] = [
     leaves("bell eleven written as bell twelve", bell_eleven_written_as_twelve),
     reads("bell ten refused by reading", bell_ten_refused),
     reads("K an unknown rule", unknown_rule_k),
+    counts("the last step alone counted", last_step_counted),
+    counts("a refused call clears the counts", counts_cleared_by_a_refusal),
+    counts("a short buffer for the counts refused last", short_counts_refused_last),
+    counts("a short buffer for the counts filled as far as it goes", short_counts_taken),
+    stores("rules 1 and 2 counted for each other", neighbours_exchanged::<1>),
+    stores("rules 7 and 8 counted for each other", neighbours_exchanged::<7>),
+    stores("rules 12 and 13 counted for each other", neighbours_exchanged::<12>),
+    stores("counts added to those of before", added_to_before),
+    stores("the high byte of a count first", high_byte_first),
+    stores("counts by rule of 16 bits", counts_of_16_bits),
+    stores("the byte behind the counts cleared", byte_behind_the_counts_cleared),
+    stores("counts left as they were where no step was made", counts_left_without_a_step),
+    stores("counts left as they were where there is no room", counts_left_without_room),
 ];
 
 pub fn bugs() -> &'static [Bug] {
@@ -164,6 +285,17 @@ impl<C: Controller> Controller for Wrong<C> {
 
     fn finish(&self, area: &mut [u8], term: usize, work: &mut [u8], fuel: u64) -> u64 {
         let reply = self.subject.finish(area, term, work, fuel);
+        (self.bug.bytes)(reply, area, work);
+        (self.bug.reply)(reply)
+    }
+
+    fn finish_counted(&self, area: &mut [u8], term: usize, work: &mut [u8], fuel: u64, counts: &mut [u8]) -> u64 {
+        let before = counts.to_vec();
+        let lent = Lending { area: &mut *area, term, work: &mut *work, fuel, counts: &mut *counts };
+        let reply = (self.bug.count)(&self.subject, lent);
+        if !is_refusal(reply) {
+            (self.bug.stored)(reply, &before, counts);
+        }
         (self.bug.bytes)(reply, area, work);
         (self.bug.reply)(reply)
     }

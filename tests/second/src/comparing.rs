@@ -20,8 +20,8 @@ pub struct Lent<'a> {
 pub fn compare<R: Reducer>(first: Lent, second: Lent, work: &mut [u8], fuel: u64) -> Result<Verdict, Refusal> {
     refuse(first.area, first.length, work.len(), fuel)?;
     refuse(second.area, second.length, work.len(), fuel)?;
-    let one = finish_unrefused::<R>(first.area, first.length, fuel);
-    let two = finish_unrefused::<R>(second.area, second.length, fuel);
+    let one = finish_unrefused::<R>(first.area, first.length, fuel, |_| ());
+    let two = finish_unrefused::<R>(second.area, second.length, fuel, |_| ());
     work.fill(0);
     if one.outcome != Outcome::Finished || two.outcome != Outcome::Finished {
         return Ok(Verdict::Undecided);

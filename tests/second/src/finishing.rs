@@ -31,23 +31,26 @@ pub fn refuse(area: &[u8], length: usize, work: usize, fuel: u64) -> Result<(), 
     Ok(())
 }
 
-/// Reduces until a run ends; answers its outcome and the number of steps made.
-pub fn run<R: Reducer>(reducer: &mut R, area: usize, fuel: u64) -> (Outcome, u64) {
+/// Reduces until a run ends; answers its outcome and the number of steps made, and tells the rule of each.
+pub fn run<R: Reducer>(reducer: &mut R, area: usize, fuel: u64, mut used: impl FnMut(u8)) -> (Outcome, u64) {
     let mut count = 0;
     loop {
         match reducer.next(count == fuel, area) {
             Next::Normal => return (Outcome::Finished, count),
             Next::Spent => return (Outcome::Spent, count),
             Next::NoRoom => return (Outcome::NoRoom, count),
-            Next::Stepped(_) => count += 1,
+            Next::Stepped(rule) => {
+                used(rule);
+                count += 1;
+            }
         }
     }
 }
 
 /// Finishes the term in the first `length` bytes of an area that no refusal strikes.
-pub fn finish_unrefused<R: Reducer>(area: &mut [u8], length: usize, fuel: u64) -> Run {
+pub fn finish_unrefused<R: Reducer>(area: &mut [u8], length: usize, fuel: u64, used: impl FnMut(u8)) -> Run {
     let mut reducer = R::start(&area[..length]);
-    let (outcome, count) = run(&mut reducer, area.len(), fuel);
+    let (outcome, count) = run(&mut reducer, area.len(), fuel, used);
     let text = reducer.text();
     store(&text, area);
     Run { outcome, count, length: text.len() }
@@ -55,7 +58,7 @@ pub fn finish_unrefused<R: Reducer>(area: &mut [u8], length: usize, fuel: u64) -
 
 pub fn finish<R: Reducer>(area: &mut [u8], length: usize, work: &mut [u8], fuel: u64) -> Result<Run, Refusal> {
     refuse(area, length, work.len(), fuel)?;
-    let run = finish_unrefused::<R>(area, length, fuel);
+    let run = finish_unrefused::<R>(area, length, fuel, |_| ());
     work.fill(0);
     Ok(run)
 }

@@ -7,6 +7,7 @@
 pub mod bell;
 pub mod checking;
 pub mod comparing;
+pub mod counting;
 pub mod finish_line;
 pub mod finishing;
 pub mod machine;

@@ -7,7 +7,8 @@ pub struct Refusal {
 }
 
 pub const AREA_TOO_LARGE: u8 = 1;
-pub const WORK_TOO_SHORT: u8 = 2;
+/// The work area, or the buffer for the counts.
+pub const LENT_TOO_SHORT: u8 = 2;
 pub const LENGTH_TOO_LARGE: u8 = 3;
 pub const FUEL_TOO_LARGE: u8 = 4;
 pub const NOT_A_LETTER: u8 = 5;

@@ -38,7 +38,7 @@ pub fn refuse_lengths(area: usize, term: usize, work: usize) -> Result<(), Refus
         return Err(without_place(AREA_TOO_LARGE));
     }
     if work < area {
-        return Err(without_place(WORK_TOO_SHORT));
+        return Err(without_place(LENT_TOO_SHORT));
     }
     if term > area {
         return Err(without_place(LENGTH_TOO_LARGE));

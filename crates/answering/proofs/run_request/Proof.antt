@@ -39,7 +39,7 @@ slice-reshare-prefix-print-finishing c = search needs
 
 slice-aggregate-print-finishing : tie.Need-slice-aggregate-print-finishing
 slice-aggregate-print-finishing c =
-    let at-finish = c .before .before .before .before .before .before in
+    let at-finish = c .before .before .before .before .before .before .before in
     let at-least = at-finish .before .before .before .before in
     let start = at-least .before .before .before .before in
     front-length (start .args .area) (start .args .term .now) (at-least .least .result) (at-finish .finish .last .0)
@@ -47,6 +47,9 @@ slice-aggregate-print-finishing c =
 
 print-finishing-requires : tie.Need-print-finishing-requires
 print-finishing-requires c κs = search needs
+
+is-admitted-requires : tie.Need-is-admitted-requires
+is-admitted-requires c κs = search needs
 
 same-length : tie.Need-same-length
 same-length c = search needs
@@ -59,15 +62,16 @@ same-length-3 c = search needs
 
 returns : tie.Need-returns
 returns c =
-    let at-finish = c .before .before .before .before .before .before .before .before .before .before in
+    let at-print-finishing = c .before .before .before in
+    let at-finish = at-print-finishing .before .before .before .before .before .before .before .before .before in
     let at-least2 = at-finish .before .before .before in
     let at-least = at-least2 .before in
     let start = at-least .before .before .before .before in
     request-answers (start .args .fuel) (start .args .area) (start .args .length) (start .args .term .now) (start .args .work .now)
     (at-least .least .result) (at-least2 .least2 .result) (replyOf (at-finish .finish .result .admission))
-    (ranOf (at-finish .finish .result .run)) (at-finish .finish .last .0) (at-finish .finish .last .1 .1 .0) _ _ _
+    (ranOf (at-finish .finish .result .run)) (at-finish .finish .last .0) (at-finish .finish .last .1 .1 .0) _ _ _ (c .is-admitted .result)
     (at-least .least .ensures) (at-least2 .least2 .ensures) (at-finish .finish .kept .0) (at-finish .finish .ensures .0)
-    (c .before .before .print-finishing .ensures)
+    (at-print-finishing .print-finishing .ensures) (c .is-admitted .ensures)
 
 pub run-request-spec : {M : Type 1} → statement M
 run-request-spec =
@@ -83,6 +87,7 @@ run-request-spec =
     slice-reshare-prefix-print-finishing
     slice-aggregate-print-finishing
     print-finishing-requires
+    is-admitted-requires
     same-length
     same-length-2
     same-length-3

@@ -81,7 +81,8 @@ returns-3 c =
     (at-admit2 .admit2 .result) (at-admit2 .admit2 .ensures) (at-match2 .match2 .keys1) (replyOf (at-finish .finish .result .admission))
     (replyOf (at-finish2 .finish2 .result .admission)) (outcomeOf (at-finish .finish .result .run .outcome))
     (outcomeOf (at-finish2 .finish2 .result .run .outcome)) (at-finish .finish .result .run .count)
-    (at-finish2 .finish2 .result .run .count) (at-finish .finish .result .run .size) (at-finish2 .finish2 .result .run .size)
+    (at-finish2 .finish2 .result .run .count) (at-finish .finish .result .run .«by_rule»)
+    (at-finish2 .finish2 .result .run .«by_rule») (at-finish .finish .result .run .size) (at-finish2 .finish2 .result .run .size)
     (at-finish .finish .last .0) (at-finish2 .finish2 .last .0) (at-finish .finish .last .1 .1 .0) (at-finish2 .finish2 .last .1 .1 .0)
     (answerOf (c .verdict-on .result)) (at-finish .finish .ensures .0) (at-finish2 .finish2 .ensures .0) (c .verdict-on .ensures)
 

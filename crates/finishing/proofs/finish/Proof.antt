@@ -1,8 +1,7 @@
 -- `finishing::finish` meets its contract: each of its two ways out is a law of `Ending`. Assumes nothing.
-use native.Mathlib.Omega.{arith}
 use borrow.Author.Needs.{needs}
 use Rattle.finishing.specs.Answer.{outcomeOf}
-use Rattle.finishing.proofs.Ending.{after-refused, after-ready, after-run}
+use Rattle.finishing.proofs.Ending.{after-refused, after-ready, after-fuelled, after-run}
 use Rattle.finishing.proofs.finish.Statement.{statement}
 use Rattle.finishing.proofs.finish.Tie as tie
 
@@ -12,6 +11,9 @@ admit-requires c κs = search needs
 enum-told : tie.Need-enum-told
 enum-told c = search needs
 
+no-run-requires : tie.Need-no-run-requires
+no-run-requires c κs = search needs
+
 same-length : tie.Need-same-length
 same-length c = search needs
 
@@ -20,16 +22,21 @@ same-length-2 c = search needs
 
 returns : tie.Need-returns
 returns c =
-    let start = c .before .before .before .before .before .before in
-    (after-refused (start .args .area .now) (start .args .len) (start .args .work .now) (start .args .fuel) (c .before .admit .result) (c .before .admit .ensures) (c .match .keys2), omega arith)
+    let start = c .before .before .before .before .before .before .before in
+    after-refused (start .args .area .now) (start .args .len) (start .args .work .now) (start .args .fuel)
+    (c .before .before .admit .result) (c .before .before .admit .ensures) (outcomeOf (c .no-run .result .outcome))
+    (c .no-run .result .count) (c .no-run .result .«by_rule») (c .no-run .result .size) (c .no-run .ensures) (c .before .match .keys2)
 
 run-term-requires : tie.Need-run-term-requires
 run-term-requires c κs =
     let at-match = c .before .before .before in
     let at-admit = at-match .before in
-    let start = at-admit .before .before .before .before .before in
-    after-ready (start .args .area .now) (start .args .len) (start .args .work .now) (start .args .fuel) (at-admit .admit .result)
-    (at-admit .admit .ensures) (at-match .match .keys1)
+    let a = at-admit .before .before .before .before .before .args in
+    let admit = at-admit .admit in
+    let admitted = at-match .match .keys1 in (
+      after-ready (a .area .now) (a .len) (a .work .now) (a .fuel) (admit .result) (admit .ensures) admitted,
+      after-fuelled (a .area .now) (a .len) (a .work .now) (a .fuel) (admit .result) (admit .ensures) admitted,
+    )
 
 clear-requires : tie.Need-clear-requires
 clear-requires c κs = search needs
@@ -49,10 +56,10 @@ returns-2 c =
     let start = at-admit .before .before .before .before .before in
     after-run (start .args .area .now) (start .args .len) (start .args .work .now) (start .args .fuel) (at-admit .admit .result)
     (at-admit .admit .ensures) (at-match .match .keys1) (outcomeOf (at-run-term .run-term .result .outcome))
-    (at-run-term .run-term .result .count) (at-run-term .run-term .result .size) (at-run-term .run-term .last .0)
-    (at-run-term .run-term .last .1 .1 .0) (at-clear .clear .last .0) (at-clear .clear .last .1 .1 .0)
-    (at-run-term .run-term .ensures) (at-run-term .run-term .kept .0) (at-run-term .run-term .kept .1 .1 .0)
-    (at-clear .clear .ensures .0) (at-clear .clear .ensures .1)
+    (at-run-term .run-term .result .count) (at-run-term .run-term .result .«by_rule») (at-run-term .run-term .result .size)
+    (at-run-term .run-term .last .0) (at-run-term .run-term .last .1 .1 .0) (at-clear .clear .last .0) (at-clear .clear .last .1 .1 .0)
+    (at-run-term .run-term .ensures) (at-run-term .run-term .kept .0) (at-run-term .run-term .kept .1 .1 .0) (at-clear .clear .ensures .0)
+    (at-clear .clear .ensures .1)
 
 pub finish-spec : {M : Type 1} → statement M
 finish-spec =
@@ -60,6 +67,7 @@ finish-spec =
     (tie.spec
     admit-requires
     enum-told
+    no-run-requires
     same-length
     same-length-2
     returns

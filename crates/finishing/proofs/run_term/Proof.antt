@@ -1,24 +1,25 @@
 -- `finishing::run_term` meets its contract. The loop's invariant is `At`: the area holds a term that the run of the first passes, with
--- `count` steps made. The measure is the fuel left. Assumes nothing.
+-- `count` steps made, by rules whose counts are `by_rule`. The measure is the fuel left. Assumes nothing.
 use Prim.Native.Nat.{_-_}
 use mathlib.Core.Path.{_≡_, refl, sym, _∙_}
 use borrow.Author.Needs.{needs}
 use lib.ListN.{length}
 use lib.Seq.{length-take-le}
-use Rattle.finishing.proofs.Loop.{At, at-start, at-step, at-no-room, at-normal, at-stop, at-no-stop}
+use Rattle.finishing.proofs.Loop.{At, at-start, at-count, at-step, at-no-room, at-normal, at-stop, at-no-stop}
 use Rattle.finishing.proofs.run_term.Statement.{statement}
 use Rattle.finishing.proofs.run_term.Tie as tie
 
 abbrev Inv-loop : tie.InvT-loop
-Inv-loop area₀ len work₀ fuel size₀ count₀ area work size count = At fuel area₀ len count area size work × (length work ≡ length work₀)
+Inv-loop area₀ len work₀ fuel size₀ count₀ by-rule₀ area work size count by-rule =
+    At fuel area₀ len count by-rule area size work × (length work ≡ length work₀)
 
 abbrev μ-loop : tie.MeasureT-loop
-μ-loop area₀ len work₀ fuel size₀ count₀ area work size count = fuel - count
+μ-loop area₀ len work₀ fuel size₀ count₀ by-rule₀ area work size count by-rule = fuel - count
 
 loop-holds : tie.Need-loop-holds Inv-loop μ-loop
 loop-holds c =
     let start = c .before .before in
-    (at-start (start .args .fuel) (start .args .area .now) (start .args .len) (start .args .work .now) (start .pre), refl)
+    (at-start (start .args .fuel) (start .args .area .now) (start .args .len) (start .args .work .now) (start .pre .0), refl)
 
 step-once-requires : tie.Need-step-once-requires Inv-loop μ-loop
 step-once-requires c κs =
@@ -59,6 +60,15 @@ returns-2 c =
     at-normal (at-loop .loop .inv .0) (at-step-once .step-once .result) (at-loop-test .loop-test .taken) (at-step-once .step-once .ensures)
     (c .before .match .keys2) (c .match2 .keys2)
 
+used-once-requires : tie.Need-used-once-requires Inv-loop μ-loop
+used-once-requires c κs =
+    let at-step-once = c .before .before .before .before .before .before .before .before in
+    let at-loop-test = at-step-once .before .before .before in
+    let at-loop = at-loop-test .before in
+    let start = at-loop .before .before .before in
+    at-count (at-loop .loop .inv .0) (at-step-once .step-once .result) (at-loop-test .loop-test .taken) (at-step-once .step-once .ensures)
+    (start .pre .1) (c .before .stepping .given .1)
+
 add-count : tie.Need-add-count Inv-loop μ-loop
 add-count c = search needs
 
@@ -67,13 +77,13 @@ loop-less c = search needs
 
 loop-again : tie.Need-loop-again Inv-loop μ-loop
 loop-again c =
-    let at-step-once = c .before .before .before .before .before .before .before .before in
+    let at-step-once = c .before .before .before .before .before .before .before .before .before in
     let at-loop-test = at-step-once .before .before .before in
     let at-loop = at-loop-test .before in
     let once = at-step-once .step-once in
-    let done = c .before .stepping .given in (
-      at-step (at-loop .loop .inv .0) (once .result) (at-loop-test .loop-test .taken) (once .ensures) (done .0 .0) (done .0 .1 .0) (once .last .1 .1 .0)
-          (done .1) (once .kept .0) (once .kept .1 .1 .0),
+    let done = c .before .before .stepping .given in (
+      at-step (at-loop .loop .inv .0) (once .result) (at-loop-test .loop-test .taken) (once .ensures) (done .0 .0) (done .0 .1 .0)
+          (c .used-once .result) (once .last .1 .1 .0) (done .1) (c .used-once .ensures) (once .kept .0) (once .kept .1 .1 .0),
       once .kept .1 .1 .0 ∙ at-loop .loop .inv .1,
     )
 
@@ -127,6 +137,7 @@ run-term-spec =
     same-length-3
     same-length-4
     returns-2
+    used-once-requires
     add-count
     loop-less
     loop-again

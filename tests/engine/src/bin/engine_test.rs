@@ -9,8 +9,8 @@ use harness::subject::Controller;
 use harness::suite::Suite;
 use harness::wrong::{bugs, Wrong};
 use harness::{
-    check_tests, compare_tests, deep, finish_tests, huge, match_tests, read_tests, small_tests, step_tests,
-    threads,
+    check_tests, compare_tests, count_tests, deep, finish_tests, huge, match_tests, read_tests, small_tests,
+    step_tests, threads,
 };
 
 /// What was written by hand: quick, and enough to see most of the bugs that are planted.
@@ -18,12 +18,14 @@ fn known(suite: &mut Suite, subject: impl Controller + Copy) {
     read_tests::known(suite, "engine", subject);
     step_tests::known(suite, "engine", subject);
     finish_tests::known(suite, "engine", subject);
+    count_tests::known(suite, "engine", subject);
     compare_tests::known(suite, "engine", subject);
     check_tests::known(suite, "engine", subject);
     match_tests::known(suite, "engine", subject);
     read_tests::made(suite, "engine", subject);
     check_tests::made(suite, "engine", subject);
     match_tests::made(suite, "engine", subject);
+    count_tests::made(suite, "engine", subject);
     finish_tests::made(suite, "engine", subject);
 }
 
@@ -35,6 +37,8 @@ fn predicted(suite: &mut Suite, subject: impl Controller + Copy) {
     small_tests::predicted(suite, "engine", subject);
     small_tests::largest(suite, "engine", subject);
     finish_tests::long(suite, "engine", subject, finish_tests::MILLION_STEPS);
+    count_tests::predicted(suite, "engine", subject);
+    count_tests::long(suite, "engine", subject, 16, 65_537);
     compare_tests::predicted(suite, "engine", subject);
     check_tests::predicted(suite, "engine", subject);
     match_tests::predicted(suite, "engine", subject);

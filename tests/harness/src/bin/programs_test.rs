@@ -1,24 +1,49 @@
-//! Runs the two programs of the engine on every program row. Its argument is the folder of the programs.
+//! Runs the three programs of the engine on every program row.
+//!
+//!   programs_test FOLDER              every test; FOLDER holds the programs
+//!   programs_test FOLDER --bugs       the names of the bugs that can be planted in what rule_mix prints
+//!   programs_test FOLDER --bug NAME   the tests of rule_mix with that bug
 
 use harness::program_tests::*;
 use harness::suite::Suite;
-use std::path::PathBuf;
+use harness::wrong_print::{bugs, Wrong};
 
-fn tests() -> i32 {
-    let folder = PathBuf::from(std::env::args().nth(1).expect("the folder of the programs"));
-    let processes = Processes { folder };
+fn tests(processes: &Processes) -> i32 {
     let mut suite = Suite::new();
-    known_finishing(&mut suite, "engine", &processes);
-    known_checking(&mut suite, "engine", &processes);
-    predicted_finishing(&mut suite, "engine", &processes);
-    predicted_checking(&mut suite, "engine", &processes);
-    for program in ["finish", "check_file"] {
-        slowly(&mut suite, "engine", program, &processes);
-        failing(&mut suite, "engine", program, &processes);
+    known_finishing(&mut suite, "engine", processes);
+    known_mixing(&mut suite, "engine", processes);
+    known_checking(&mut suite, "engine", processes);
+    predicted_finishing(&mut suite, "engine", processes);
+    predicted_mixing(&mut suite, "engine", processes);
+    predicted_checking(&mut suite, "engine", processes);
+    for program in ["finish", "rule_mix", "check_file"] {
+        slowly(&mut suite, "engine", program, processes);
+        failing(&mut suite, "engine", program, processes);
     }
     suite.end()
 }
 
+fn tests_with_bug(processes: &Processes, name: &str) -> i32 {
+    let bug = bugs().iter().find(|bug| bug.name == name).expect("a bug of that name");
+    let mut suite = Suite::new();
+    known_mixing(&mut suite, "engine", Wrong { programs: processes, bug });
+    predicted_mixing(&mut suite, "engine", Wrong { programs: processes, bug });
+    suite.end()
+}
+
+fn asked() -> i32 {
+    let words: Vec<String> = std::env::args().skip(1).collect();
+    match words.iter().map(String::as_str).collect::<Vec<_>>()[..] {
+        [folder] => tests(&Processes { folder: folder.into() }),
+        [_, "--bugs"] => {
+            bugs().iter().for_each(|bug| println!("{}", bug.name));
+            0
+        }
+        [folder, "--bug", name] => tests_with_bug(&Processes { folder: folder.into() }, name),
+        _ => panic!("usage: programs_test FOLDER [--bugs | --bug NAME]"),
+    }
+}
+
 fn main() {
-    std::process::exit(second::on_deep_stack(tests));
+    std::process::exit(second::on_deep_stack(asked));
 }

@@ -14,7 +14,7 @@ pub struct Row {
 
 const AMPLE: usize = 200;
 
-fn row(term: &str, area: usize, fuel: u64, reply: &str, after: &str) -> Row {
+pub fn row(term: &str, area: usize, fuel: u64, reply: &str, after: &str) -> Row {
     let name = format!("{term} area {area} fuel {fuel} is {reply}");
     Row { name, term: term.into(), area, fuel, reply: reply.to_string(), after: after.into() }
 }
@@ -215,54 +215,54 @@ pub fn long_rows() -> Vec<Row> {
 }
 
 /// (`.I`)^k `J`: rule 5 k times.
-fn identities(k: usize) -> Row {
+pub fn identities(k: usize) -> Row {
     let term = joined(&[&repeated(".I", k), b"J"]);
     ran(format!("{k} identities on the right"), term, k, b"J".to_vec())
 }
 
 /// `.`^k `I`^(k+1): rule 5 k times, in the function first.
-fn left_identities(k: usize) -> Row {
+pub fn left_identities(k: usize) -> Row {
     let term = joined(&[&repeated(".", k), &repeated("I", k + 1)]);
     ran(format!("{k} identities on the left"), term, k, b"I".to_vec())
 }
 
 /// `.`^k `J`^(k+1): rule 1 once, then rule 3.
-fn frozen(k: usize) -> Row {
+pub fn frozen(k: usize) -> Row {
     let term = joined(&[&repeated(".", k), &repeated("J", k + 1)]);
     let result = joined(&[&repeated("H", k), &repeated("J", k + 1)]);
     ran(format!("{k} applications frozen"), term, k, result)
 }
 
-fn ran(name: String, term: Vec<u8>, steps: usize, after: Vec<u8>) -> Row {
+pub fn ran(name: String, term: Vec<u8>, steps: usize, after: Vec<u8>) -> Row {
     Row { name, area: term.len(), term, fuel: 1_000_000, reply: format!("finished {steps}"), after }
 }
 
 /// (`.1`)^k `T`: rule 12 k times.
-fn struck(k: usize) -> Row {
+pub fn struck(k: usize) -> Row {
     let (term, result) = (joined(&[&repeated(".1", k), b"T"]), joined(&[&repeated("H1", k), b"T"]));
     ran(format!("{k} bells on the right"), term, k, result)
 }
 
 /// `.`^k `0`^(k+1): rule 12 once, then rule 3.
-fn left_struck(k: usize) -> Row {
+pub fn left_struck(k: usize) -> Row {
     let (term, result) = (repeated(".", k), repeated("H", k));
     let zeros = repeated("0", k + 1);
     ran(format!("{k} bells on the left"), joined(&[&term, &zeros]), k, joined(&[&result, &zeros]))
 }
 
 /// (`.BJI`)^k `E`: rule 13 k times, at the innermost first.
-fn replaced(k: usize) -> Row {
+pub fn replaced(k: usize) -> Row {
     ran(format!("{k} pairs before a bell"), joined(&[&repeated(".BJI", k), b"E"]), k, b"E".to_vec())
 }
 
 /// The last of k + 1 bells behind one another, by its index: rule 7 k times, then rule 6.
-fn looked_up(k: usize) -> Row {
+pub fn looked_up(k: usize) -> Row {
     let term = joined(&[b".", &repeated("B1", k), b"BTI", &repeated("R", k), b"J"]);
     ran(format!("the last of {} bells", k + 1), term, k + 1, b"T".to_vec())
 }
 
 /// `.BIIH1R`^k`T`, of k + 7 letters, in the largest area: rule 8 makes it larger by 4.
-fn filled(k: usize) -> Row {
+pub fn filled(k: usize) -> Row {
     Row {
         name: format!("rule 8 on bells among {} letters, one step", k + 7),
         term: joined(&[b".BIIH1", &repeated("R", k), b"T"]),
@@ -274,7 +274,7 @@ fn filled(k: usize) -> Row {
 }
 
 /// The same with one letter more than there is room for.
-fn not_filled(k: usize) -> Row {
+pub fn not_filled(k: usize) -> Row {
     let full = filled(k);
     Row { reply: "no room 0".to_string(), after: full.term.clone(), ..full }
 }

@@ -2,6 +2,7 @@
 
 pub mod checking;
 pub mod comparing;
+pub mod counting;
 pub mod finishing;
 pub mod matching;
 pub mod programs;

@@ -1,12 +1,13 @@
-//! The two programs: standard input and the one line printed.
+//! The three programs: standard input, and the one line printed or, by rule_mix, the fourteen.
 
 use super::checking::{file, I, J, K};
+use super::counting::all_different;
 use crate::terms::{index, repeated};
 
 pub struct Row {
     pub name: String,
     pub input: Vec<u8>,
-    /// The printed line, without its line feed.
+    /// The printed lines, without the last line feed.
     pub printed: Vec<u8>,
 }
 
@@ -205,6 +206,135 @@ fn long_inputs() -> Vec<Row> {
 fn whole_area(name: &str, term: Vec<u8>, steps: usize, result: Vec<u8>) -> Row {
     let input = line("1000000\t16384\t", term, "\n");
     Row { name: name.to_string(), input, printed: line(&format!("finished\t{steps}\t"), result, "") }
+}
+
+/// Every row of rule_mix; what the finishing program refuses it refuses too, in the same words.
+pub fn mix_rows() -> Vec<Row> {
+    let refused = finish_rows().into_iter().filter(|row| row.printed.starts_with(b"refused"));
+    [vec![example_2()], mixes(), long_mixes()].into_iter().flatten().chain(refused).collect()
+}
+
+/// Example 2, line by line: the largest count is 2, and half of 40 marks are 20.
+fn example_2() -> Row {
+    row(
+        "6\t12\t.BII.JRJ\n",
+        "finished\t6\tJ\n\
+         1\t1\t####################\n\
+         2\t0\t\n\
+         3\t0\t\n\
+         4\t0\t\n\
+         5\t2\t########################################\n\
+         6\t1\t####################\n\
+         7\t1\t####################\n\
+         8\t1\t####################\n\
+         9\t0\t\n\
+         10\t0\t\n\
+         11\t0\t\n\
+         12\t0\t\n\
+         13\t0\t",
+    )
+}
+
+/// The line of the finishing program, and those of the rules: (rule, count, marks) where a rule is used.
+fn mixed(line: &[u8], used: &[(usize, usize, usize)]) -> Vec<u8> {
+    let mut printed = line.to_vec();
+    for rule in 1..=13 {
+        let (count, marks) = used.iter().find(|own| own.0 == rule).map_or((0, 0), |own| (own.1, own.2));
+        printed.extend_from_slice(format!("\n{rule}\t{count}\t{}", "#".repeat(marks)).as_bytes());
+    }
+    printed
+}
+
+fn mix(input: &str, line: &str, used: &[(usize, usize, usize)]) -> Row {
+    let name =
+        format!("{} prints {} and rules, counts, marks {used:?}", input.escape_debug(), line.escape_debug());
+    Row { name, input: input.into(), printed: mixed(line.as_bytes(), used) }
+}
+
+/// Runs of each outcome, with the rules of the rows of counting.
+fn mixes() -> Vec<Row> {
+    let two = [(1, 1, 20), (5, 2, 40), (6, 1, 20), (7, 1, 20), (8, 1, 20)];
+    vec![
+        mix("1000000\t16384\t.BII.JRJ\n", "finished\t6\tJ", &two),
+        mix("5\t12\t.BII.JRJ\n", "spent\t5\t.IJ", &[(1, 1, 40), (5, 1, 40), (6, 1, 40), (7, 1, 40), (8, 1, 40)]),
+        mix("1\t11\t.BII.JRJ\n", "spent\t1\t.BIIHJRJ", &[(1, 1, 40)]),
+        mix("6\t11\t.BII.JRJ\n", "no room\t1\t.BIIHJRJ", &[(1, 1, 40)]),
+        mix("0\t11\t.BII.JRJ\n", "spent\t0\t.BII.JRJ", &[]),
+        mix("9\t7\t.BIIHJJ\n", "no room\t0\t.BIIHJJ", &[]),
+        mix("0\t1\tJ\n", "finished\t0\tJ", &[]),
+        mix("1000000\t16384\tT\n", "finished\t0\tT", &[]),
+        mix("9\t30\t.BIIABJIRJ\n", "finished\t4\tABIIRJ", &[(6, 1, 40), (9, 1, 40), (10, 1, 40), (11, 1, 40)]),
+        mix("6\t12\t.1J\n", "finished\t1\tH1J", &[(12, 1, 40)]),
+        mix("6\t12\t.BJI1\n", "finished\t1\t1", &[(13, 1, 40)]),
+        mix("6\t11\t.BJI.1T\n", "finished\t5\tH1T", &[(8, 1, 20), (12, 2, 40), (13, 2, 40)]),
+        // A third of 40 marks is 13 and a third: 14.
+        mix(
+            "99\t99\t.B1B2B3IBRRJBRJBJI\n",
+            "finished\t10\tB3B2B1I",
+            &[(6, 3, 40), (7, 3, 40), (10, 1, 14), (11, 3, 40)],
+        ),
+        // Two thirds are 26 and two thirds: 27.
+        mix(
+            "9\t30\tH.IJH.IIH.I1H.JIH.JI.1J\n",
+            "finished\t6\tHJHIH1HHJIHHJIH1J",
+            &[(1, 2, 27), (5, 3, 40), (12, 1, 14)],
+        ),
+    ]
+}
+
+/// The marks of the counts in which no two are equal: 40 for 15, the others in proportion and rounded up.
+const DIFFERENT: [(usize, usize, usize); 13] = [
+    (1, 9, 24),
+    (2, 6, 16),
+    (3, 7, 19),
+    (4, 1, 3),
+    (5, 10, 27),
+    (6, 11, 30),
+    (7, 3, 8),
+    (8, 2, 6),
+    (9, 4, 11),
+    (10, 15, 40),
+    (11, 5, 14),
+    (12, 8, 22),
+    (13, 12, 32),
+];
+
+/// A term in the largest area, with all fuel; `end` is how the finishing program's line ends.
+fn large_mix(name: &str, term: &[u8], end: &[u8], used: &[(usize, usize, usize)]) -> Row {
+    let input = line("1000000\t16384\t", term.to_vec(), "\n");
+    Row { name: format!("{name}, mixed"), input, printed: mixed(&line("finished\t", end.to_vec(), ""), used) }
+}
+
+/// Rule 1 so many times and rule 5 so many times, and the marks of rule 1; rule 5 is used more often.
+fn two_rules(ones: usize, fives: usize, marks: usize) -> Row {
+    let term = [repeated("H.JI", ones), repeated("H.II", fives), b"J".to_vec()].concat();
+    let after = [repeated("HHJI", ones), repeated("HI", fives), b"J".to_vec()].concat();
+    let end = line(&format!("{}\t", ones + fives), after, "");
+    large_mix(&format!("{ones} of {fives}"), &term, &end, &[(1, ones, marks), (5, fives, 40)])
+}
+
+fn long_mixes() -> Vec<Row> {
+    let different = all_different().run;
+    let frozen = |letter: &str| line("", repeated(letter, 2_001), &"J".repeat(2_002));
+    vec![
+        large_mix(&different.name, &different.term, &line("93\t", different.after, ""), &DIFFERENT),
+        large_mix(
+            "2,001 applications frozen",
+            &frozen("."),
+            &line("2001\t", frozen("H"), ""),
+            &[(1, 1, 1), (3, 2_000, 40)],
+        ),
+        two_rules(1, 40, 1),
+        two_rules(1, 41, 1),
+        two_rules(2, 41, 2),
+        two_rules(39, 40, 39),
+        two_rules(40, 41, 40),
+        two_rules(25, 1_000, 1),
+        two_rules(26, 1_000, 2),
+        two_rules(975, 1_000, 39),
+        two_rules(976, 1_000, 40),
+        two_rules(1, 3_000, 1),
+    ]
 }
 
 /// Every row of the checking program.

@@ -1,4 +1,4 @@
--- `finish::feed_all` meets its contract and ends. The invariant: chunks fed led here, and the buffer keeps its length; the measure is the
+-- `feeding::feed_all` meets its contract and ends. The invariant: chunks fed led here, and the buffer keeps its length; the measure is the
 -- number of turns that are left. Assumes nothing.
 use mathlib.Core.Path.{_≡_, refl, ap}
 use lib.ListN.{length}
@@ -6,10 +6,10 @@ use borrow.Author.Needs.{needs}
 use Rattle.line_states.specs.Fed.{startLine}
 use Rattle.line_states.specs.State.{state}
 use Rattle.line_states.specs.declared.Line.{Line}
-use Rattle.finish.specs.Fed.{FedFrom}
-use Rattle.finish.proofs.Feeding.{fed-none, fed-once, fed-on}
-use Rattle.finish.proofs.feed_all.Statement.{statement}
-use Rattle.finish.proofs.feed_all.Tie as tie
+use Rattle.feeding.specs.Fed.{FedFrom}
+use Rattle.feeding.proofs.Feeding.{fed-none, fed-once, fed-on}
+use Rattle.feeding.proofs.feed_all.Statement.{statement}
+use Rattle.feeding.proofs.feed_all.Tie as tie
 
 abbrev Inv-loop : tie.InvT-loop
 Inv-loop term₀ failed line₀ got₀ turns₀ term line got turns =

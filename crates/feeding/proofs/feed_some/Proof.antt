@@ -1,13 +1,13 @@
--- `finish::feed_some` meets its contract: as many bytes as the read answered were fed, none where it failed. Assumes nothing.
+-- `feeding::feed_some` meets its contract: as many bytes as the read answered were fed, none where it failed. Assumes nothing.
 use mathlib.Core.Path.{sym, subst}
 use mir.Syntax.{w64}
 use mir.Val.{toZ, ofZ}
 use mir.Facts.{toZ-ofZ}
 use Rattle.libc.specs.Io.{Moved}
-use Rattle.finish.proofs.Feeding.{fed-by}
+use Rattle.feeding.proofs.Feeding.{fed-by}
 use borrow.Author.Needs.{needs}
-use Rattle.finish.proofs.feed_some.Statement.{statement}
-use Rattle.finish.proofs.feed_some.Tie as tie
+use Rattle.feeding.proofs.feed_some.Statement.{statement}
+use Rattle.feeding.proofs.feed_some.Tie as tie
 
 slice-aggregate-read : tie.Need-slice-aggregate-read
 slice-aggregate-read c = search needs

@@ -1,0 +1,34 @@
+// The finishing program's line, fed from standard input: what every program that takes such a line reads with.
+use line_states::Line;
+ghost use mathlib.Core.Path.{_≡_};
+ghost use Rattle.line_states.specs.Fed.{startLine};
+ghost use Rattle.line_states.specs.State.{state};
+ghost use Rattle.feeding.specs.Fed.{FedBy, FedFrom};
+
+// Reads a chunk and feeds it. `got` is what the read answered: 0 at the end of the input, and -1 where it failed, also where a signal
+// interrupted it.
+fn feed_some(line: Line, term: &mut [u8], got: &mut isize) -> Line
+    ensures { λ r. ⌜ FedBy (now (got .exit)) (state line (now (term .entry))) (state r (now (term .exit))) ⌝ }
+{
+    let mut chunk = [0u8; 4096];
+    let answered = libc::read(0, &mut chunk);
+    let n = io::count(answered, &chunk);
+    *got = answered;
+    finish_line::feed(line, &chunk[..n], term)
+}
+
+// Feeds all of standard input, up to a read that fails. A proved loop has to end, so the turns count down from a number that no run uses
+// up.
+pub fn feed_all(term: &mut [u8], failed: &mut bool) -> Line
+    ensures { λ r. ⌜ FedFrom (state startLine (now (term .entry))) (state r (now (term .exit))) ⌝ }
+{
+    let mut line = line_states::start();
+    let mut got = 1;
+    let mut turns = u64::MAX;
+    while turns > 0 && got > 0 {
+        line = feed_some(line, term, &mut got);
+        turns -= 1;
+    }
+    *failed = got < 0;
+    line
+}

@@ -1,0 +1,4 @@
+pub mod Bars
+pub mod Rows
+pub mod Whole
+pub mod Examples
