@@ -8,7 +8,7 @@ use denote.Enum.Declared.{tagOf}
 use Rattle.slices.specs.Part.{part}
 use Rattle.slices.proofs.Part.{part-front}
 use Rattle.printing.specs.Printed.{lineOf}
-use Rattle.columns.proofs.Appending.{Appends}
+use Rattle.slices.proofs.Appending.{Appends}
 use Rattle.reading.specs.Reply.{Reply, numberIn, placeIn}
 use Rattle.admission.specs.Answer.{replyOf}
 use Rattle.admission.specs.declared.Admission.{Admission}

@@ -5,7 +5,7 @@ use mathlib.Core.Path.{_≡_, sym, subst}
 use mathlib.Core.Bool.{Bool, true, false}
 use mathlib.Core.List.{List, []}
 use Rattle.slices.proofs.Put.{put-fits, behind-fits}
-use Rattle.columns.proofs.Appending.{Appends}
+use Rattle.slices.proofs.Appending.{Appends}
 use Rattle.answering.specs.Program.{unlessFailed}
 
 -- nothing is put into a buffer where it could not

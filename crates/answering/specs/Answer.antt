@@ -2,15 +2,13 @@
 use Prim.Native.Nat.{ℕ}
 use mathlib.Core.Bool.{Bool, true, false}
 use mathlib.Core.List.{List, _++_}
-use mathlib.Core.Option.{Option, none, some}
 use lib.ListN.{take, drop}
 use Rattle.reading.specs.Reply.{Reply}
-use Rattle.finishing.specs.Finishing.{After, countsOf, finishingOf}
+use Rattle.finishing.specs.Finishing.{After, countsOf, noUses, finishingOf}
 use Rattle.finish_line.specs.declared.Asked.{Asked}
 use Rattle.finish_line.specs.declared.Asked.the-variants.{OtherShape, Request}
 use Rattle.answer_lines.specs.Shown.{shownRun}
 use Rattle.answering.specs.Program.{shapeLine}
-use Rattle.answering.specs.declared.Answered.{Answered}
 
 -- finishing in the first `area` bytes of both buffers, or in the whole of one that is shorter
 abbrev pub finishedIn : (fuel area length : ℕ) (term work : List ℕ) → After
@@ -30,21 +28,18 @@ abbrev pub isAnswered : Reply Unit → Bool
 isAnswered (Reply.refused number place) = false
 isAnswered (Reply.answered done) = true
 
--- how often each rule was used, unless the call is refused
-abbrev pub usesIn : After → Option (List ℕ)
-usesIn (After.after (Reply.refused number place) r area work) = none
-usesIn (After.after (Reply.answered done) r area work) = some (countsOf r)
+-- whether there was a run, and how often it used each rule, by the record: 0 where there was none
+abbrev pub ranIn : After → Bool
+ranIn (After.after reply r area work) = isAnswered reply
 
-abbrev pub usesOf : Asked → (term work : List ℕ) → Option (List ℕ)
-usesOf asked term work = made none usesIn asked term work
+abbrev pub usesIn : After → List ℕ
+usesIn (After.after reply r area work) = countsOf r
 
-abbrev pub someIf : Bool → List ℕ → Option (List ℕ)
-someIf true uses = some uses
-someIf false uses = none
+abbrev pub ranOf : Asked → (term work : List ℕ) → Bool
+ranOf asked term work = made false ranIn asked term work
 
--- the same of what `answer_run` answers
-abbrev pub usesSaid : Answered → Option (List ℕ)
-usesSaid answered = someIf (answered .ran) (answered .«by_rule»)
+abbrev pub usesOf : Asked → (term work : List ℕ) → List ℕ
+usesOf asked term work = made noUses usesIn asked term work
 
 abbrev pub areaIn : After → List ℕ
 areaIn (After.after reply r area work) = area

@@ -9,7 +9,7 @@ ghost use Rattle.slices.specs.Put.{put, behind};
 ghost use Rattle.admission.specs.Answer.{replyOf};
 ghost use Rattle.answer_lines.specs.Shown.{shownRun};
 ghost use Rattle.answering.specs.Answer.{finishedIn, areaIn, workIn, printedRun, termAfter, workAfter};
-ghost use Rattle.answering.specs.Answer.{isAnswered, usesIn, usesOf, usesSaid};
+ghost use Rattle.answering.specs.Answer.{isAnswered, ranIn, usesIn, ranOf, usesOf};
 
 // What was printed: how long the line is, whether there was a run, and how often it used each rule, 0 where there was none.
 pub struct Answered {
@@ -25,7 +25,8 @@ pub fn answer_run(asked: Asked, term: &mut [u8], work: &mut [u8], out: &mut [u8]
         × (r .size ≡ behind 0 (printedRun asked (now (term .entry)) (now (work .entry))) (now (out .entry))) ⌝ }
     ensures lent { λ _. ⌜ (now (term .exit) ≡ termAfter asked (now (term .entry)) (now (work .entry)))
         × (now (work .exit) ≡ workAfter asked (now (term .entry)) (now (work .entry))) ⌝ }
-    ensures used { λ r. ⌜ usesSaid r ≡ usesOf asked (now (term .entry)) (now (work .entry)) ⌝ }
+    ensures used { λ r. ⌜ (r .ran ≡ ranOf asked (now (term .entry)) (now (work .entry)))
+        × (r .«by_rule» ≡ usesOf asked (now (term .entry)) (now (work .entry))) ⌝ }
 {
     let Asked::Request { fuel, area, length } = asked else {
         return Answered {
@@ -64,7 +65,8 @@ fn run_request(
         × (r .size ≡ behind 0 (shownRun (finishedIn fuel area «length» (now (term .entry)) (now (work .entry)))) (now (out .entry))) ⌝ }
     ensures lent { λ _. ⌜ (now (term .exit) ≡ areaIn (finishedIn fuel area «length» (now (term .entry)) (now (work .entry))) ++ drop area (now (term .entry)))
         × (now (work .exit) ≡ workIn (finishedIn fuel area «length» (now (term .entry)) (now (work .entry))) ++ drop area (now (work .entry))) ⌝ }
-    ensures used { λ r. ⌜ usesSaid r ≡ usesIn (finishedIn fuel area «length» (now (term .entry)) (now (work .entry))) ⌝ }
+    ensures used { λ r. ⌜ (r .ran ≡ ranIn (finishedIn fuel area «length» (now (term .entry)) (now (work .entry))))
+        × (r .«by_rule» ≡ usesIn (finishedIn fuel area «length» (now (term .entry)) (now (work .entry)))) ⌝ }
 {
     let n = least(area, term.len());
     let m = least(area, work.len());

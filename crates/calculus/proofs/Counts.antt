@@ -1,12 +1,12 @@
 -- How often each rule is used: one use more is one more in that rule's count and in no other, and the counts of a run together are the
 -- count of its steps. Carried by: each of the thirteen numbers stands once in the list of them. Assumes nothing.
-use Prim.Native.Nat.{ℕ, suc, _+_, _-_, _≤_}
+use Prim.Native.Nat.{ℕ, suc, _+_, _-_, _≤_, _<_}
 use native.Mathlib.Omega.{arith}
 use mathlib.Core.Path.{_≡_, refl, sym, _∙_, ap, subst}
 use mathlib.Core.Bool.{Bool, true, false, cond}
 use mathlib.Core.List.{List, [], _∷_, _++_, map, List·Memᴰ, List·Memᴰ·head, List·Memᴰ·tail, List·Memᴰ·not-nil}
 use lib.Dec.{eqb}
-use borrow.Author.Tests.{eqb-true, eqb-false, eq-eqb}
+use borrow.Author.Tests.{eqb-true, eqb-false}
 use lib.ListN.{length, getD, set}
 use Rattle.calculus.specs.Term.{Term}
 use Rattle.calculus.specs.Rule.{ruleNumbers}
@@ -70,6 +70,14 @@ module _ (used : List ℕ) where
   -- one use more of a rule is one more in its count and in no other
   pub tally-more : {n : ℕ} → List·Memᴰ n ruleNumbers → tally (used ++ (n ∷ [])) ≡ bumped n
   tally-more {n} m = map-same _ _ (λ j. one-more j n used) ruleNumbers ∙ bump m
+
+-- each count is below what the list's length is below
+pub tally-below : (bound : ℕ) (used : List ℕ) → length used < bound → Each (λ (n : ℕ). n < bound) (tally used)
+tally-below bound used h = go ruleNumbers
+  where
+    go : (numbers : List ℕ) → Each (λ (n : ℕ). n < bound) (map (λ (n : ℕ). occurrences n used) numbers)
+    go [] = tt
+    go (n ∷ numbers) = (omega (arith, occurrences-few n used), go numbers)
 
 -- ---- together
 

@@ -5,18 +5,17 @@ use native.Mathlib.Omega.{arith}
 use mathlib.Core.Path.{_≡_, refl, ap}
 use mathlib.Core.Bool.{Bool}
 use mathlib.Core.Logic.{⊎-elim}
-use mathlib.Core.List.{List, [], _∷_, _++_, map}
+use mathlib.Core.List.{List, _++_}
 use lib.ListN.{length, drop}
 use Rattle.calculus.specs.Term.{text, size}
-use Rattle.calculus.specs.Rule.{ruleNumbers}
 use Rattle.calculus.specs.Run.{run, outcome, rules, count, reached}
-use Rattle.calculus.specs.Counts.{occurrences, uses}
+use Rattle.calculus.specs.Counts.{uses}
 use Rattle.calculus.proofs.PrefixCode.{length-text}
 use Rattle.calculus.proofs.Ranges.{change-range}
 use Rattle.calculus.proofs.Runs.{count-fuel, reached-fits}
-use Rattle.calculus.proofs.Counts.{occurrences-few}
+use Rattle.calculus.proofs.Counts.{tally-below}
 use Rattle.words.specs.Word.{wordLimit, wordsOf}
-use Rattle.words.proofs.Words.{Fit, words-back}
+use Rattle.words.proofs.Words.{words-back}
 use Rattle.reading.specs.Reply.{Reply}
 use Rattle.reading.specs.Reading.{readingOf}
 use Rattle.reading.proofs.Numbers.{reading-refused}
@@ -117,11 +116,6 @@ finish-decoded {area = area} {fuel = fuel} (finish.Call.made t admits) =
     let uses = finishing.noUses in
     cc (run-decoded (count r) uses (size end) small fits (outcome r), ran-decoded (count r) uses (size end) small fits (outcome r))
 
--- counts of a list that is short enough fit four bytes each
-tally-fits : (used numbers : List ℕ) → length used < wordLimit → Fit (map (λ (n : ℕ). occurrences n used) numbers)
-tally-fits used [] h = tt
-tally-fits used (n ∷ numbers) h = (omega (arith, occurrences-few n used), tally-fits used numbers h)
-
 count-decoded :
     {area work counts : List ℕ} {len fuel : ℕ} {after : counting.After} →
     counted.Call area len work fuel counts after → decodedCount (codedCount after) ≡ after
@@ -137,7 +131,7 @@ count-decoded {area = area} {counts = counts} {fuel = fuel} (counted.Call.made t
     let fits : size end < 4294967296 = omega (arith, reached-fits fuel (length area) t held, admits .areas .short) in
     let left : List ℕ = wordsOf (uses r) ++ drop counting.countsSize counts in
     let back : countsIn left ≡ uses r =
-    words-back (uses r) (drop counting.countsSize counts) (tally-fits (rules r) ruleNumbers (omega arith)) in
+    words-back (uses r) (drop counting.countsSize counts) (tally-below wordLimit (rules r) (omega arith)) in
     let seen = countsIn left in
     cc (run-decoded (count r) seen (size end) small fits (outcome r), ran-decoded (count r) seen (size end) small fits (outcome r), back)
 

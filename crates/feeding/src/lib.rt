@@ -1,14 +1,16 @@
 // The finishing program's line, fed from standard input: what every program that takes such a line reads with.
 use line_states::Line;
-ghost use mathlib.Core.Path.{_≡_};
+ghost use mir.Syntax.{w64};
+ghost use mir.Val.{SFits};
 ghost use Rattle.line_states.specs.Fed.{startLine};
 ghost use Rattle.line_states.specs.State.{state};
-ghost use Rattle.feeding.specs.Fed.{FedBy, FedFrom};
+ghost use Rattle.feeding.specs.Fed.{FedBy, FedAll};
 
 // Reads a chunk and feeds it. `got` is what the read answered: 0 at the end of the input, and -1 where it failed, also where a signal
 // interrupted it.
 fn feed_some(line: Line, term: &mut [u8], got: &mut isize) -> Line
     ensures { λ r. ⌜ FedBy (now (got .exit)) (state line (now (term .entry))) (state r (now (term .exit))) ⌝ }
+    ensures { λ _. ⌜ SFits w64 (now (got .exit)) ⌝ }
 {
     let mut chunk = [0u8; 4096];
     let answered = libc::read(0, &mut chunk);
@@ -20,7 +22,7 @@ fn feed_some(line: Line, term: &mut [u8], got: &mut isize) -> Line
 // Feeds all of standard input, up to a read that fails. A proved loop has to end, so the turns count down from a number that no run uses
 // up.
 pub fn feed_all(term: &mut [u8], failed: &mut bool) -> Line
-    ensures { λ r. ⌜ FedFrom (state startLine (now (term .entry))) (state r (now (term .exit))) ⌝ }
+    ensures { λ r. ⌜ FedAll (state startLine (now (term .entry))) (state r (now (term .exit))) (now (failed .exit)) ⌝ }
 {
     let mut line = line_states::start();
     let mut got = 1;

@@ -4,17 +4,16 @@ use Prim.Native.Nat.{ℕ, _+_, _≤_, _<_}
 use native.Mathlib.Omega.{arith}
 use mathlib.Core.Path.{_≡_, refl, _∙_, ap}
 use mathlib.Core.Bool.{Bool, true, false}
-use mathlib.Core.List.{List, [], _∷_, _++_, map}
+use mathlib.Core.List.{List, [], _∷_}
 use mathlib.Core.Option.{Option, none, some}
 use lib.ListN.{length, take, length-append}
 use Rattle.calculus.specs.Run.{run, rules}
-use Rattle.calculus.specs.Rule.{ruleNumbers}
-use Rattle.calculus.specs.Counts.{occurrences, uses}
+use Rattle.calculus.specs.Counts.{uses}
 use Rattle.calculus.proofs.Runs.{count-fuel}
-use Rattle.calculus.proofs.Counts.{occurrences-few}
-use Rattle.finishing.specs.Finishing.{After, ranFrom}
+use Rattle.calculus.proofs.Counts.{tally-below}
+use Rattle.finishing.specs.Finishing.{After}
 use Rattle.finishing.proofs.Calls.{Call, call}
-use Rattle.answer_lines.specs.Shown.{shownRun, refusedLine}
+use Rattle.answer_lines.specs.Shown.{shownRun}
 use Rattle.line_states.specs.Request.{Request, requestOf}
 use Rattle.finish_line.specs.Answer.{askedOf}
 use Rattle.finish_line.proofs.Asks.{inputOf, after}
@@ -24,15 +23,10 @@ use Rattle.answering.proofs.Lengths.{call-length, refused-length}
 use Rattle.answering.proofs.Programs.{input-made}
 use Rattle.mix_lines.specs.Mix.{largestOf, mixRows}
 use Rattle.mix_lines.specs.PutAll.{putAll, joined}
-use Rattle.mix_lines.proofs.Whole.{Low, put-all, rows-length}
+use Rattle.mix_lines.proofs.Whole.{put-all, rows-length}
 use Rattle.mix_answers.specs.Mix.{mixLines, printedMix, mixProgram, noneFailed}
 
 -- ---- how long the lines are
-
--- counts of a list that is short enough have few digits
-low-counts : (used numbers : List ℕ) → length used < 10000000 → Low (map (λ (n : ℕ). occurrences n used) numbers)
-low-counts used [] h = tt
-low-counts used (n ∷ numbers) h = (omega (arith, occurrences-few n used), low-counts used numbers h)
 
 -- one line alone
 one-line : (line : List ℕ) → length (joined (line ∷ [])) ≡ length line
@@ -43,7 +37,7 @@ mix-length {area} {work} {len} {fuel} {x} (Call.refused {number} {place} found) 
     omega (arith, one-line (shownRun x), call-length {area = area} {work = work} {len = len} {fuel = fuel} (Call.refused found))
 mix-length {area} {work} {len} {fuel} {x} (Call.made t admits) =
     let r = run fuel (length area) t in
-    let low = low-counts (rules r) ruleNumbers (omega (arith, count-fuel fuel (length area) t, admits .fuelled)) in
+    let low = tally-below 10000000 (rules r) (omega (arith, count-fuel fuel (length area) t, admits .fuelled)) in
     omega (
       arith,
       length-append (shownRun x) (joined (mixRows (uses r))),

@@ -9,7 +9,7 @@ use lib.ListN.{length, drop, getD}
 use lib.Seq.{drop-cons, drop-length}
 use Rattle.slices.specs.Put.{put, behind}
 use Rattle.slices.specs.Numeral.{decimal}
-use Rattle.columns.proofs.Appending.{Appends}
+use Rattle.slices.proofs.Appending.{Appends}
 use Rattle.printing.specs.Printed.{rowOf}
 use Rattle.mix_lines.specs.Mix.{bar, mixRow, largestOf, rowsFrom}
 use Rattle.mix_lines.specs.PutAll.{putAll}

@@ -4,6 +4,7 @@ use native.Mathlib.Omega.{arith}
 use mathlib.Core.List.{List, [], _∷_, _++_}
 use mathlib.Core.Path.{refl}
 use lib.ListN.{length, length-append}
+use Rattle.calculus.proofs.Ranges.{Each}
 use Rattle.slices.specs.Numeral.{decimal}
 use Rattle.slices.specs.Put.{put, behind}
 use Rattle.slices.specs.Wrote.{Wrote}
@@ -24,11 +25,6 @@ put-all (line ∷ lines) at dst room =
     let first = wrote-put at line dst (omega arith) refl refl in
     wrote-then first (put-all lines (behind at line dst) (put at line dst) (omega (arith, first .ends, first .size)))
 
--- each count has at most seven digits
-abbrev pub Low : List ℕ → Type 0
-Low [] = Unit
-Low (count ∷ counts) = (count < 10000000) × Low counts
-
 row-length : (largest rule count : ℕ) → rule < 10000000 → count < 10000000 → length (mixRow largest rule count) ≤ 57
 row-length largest rule count few low =
     omega (
@@ -39,8 +35,9 @@ row-length largest rule count few low =
       bar-short count largest,
     )
 
+-- of counts of at most seven digits
 pub rows-length :
-    (largest rule : ℕ) (counts : List ℕ) → rule + length counts ≤ 10000000 → Low counts →
+    (largest rule : ℕ) (counts : List ℕ) → rule + length counts ≤ 10000000 → Each (λ (n : ℕ). n < 10000000) counts →
     length (joined (rowsFrom largest rule counts)) ≤ 57 * length counts
 rows-length largest rule [] few low = omega arith
 rows-length largest rule (count ∷ counts) few low =

@@ -9,7 +9,7 @@ use lib.Seq.{append-snoc}
 use Rattle.slices.specs.Split.{tab, lineFeed}
 use Rattle.slices.specs.Wrote.{Wrote}
 use Rattle.slices.proofs.Wrote.{wrote-then}
-use Rattle.columns.proofs.Appending.{Appends, appended, wrote, appends-none}
+use Rattle.slices.proofs.Appending.{Appends, appended, wrote, appends-none}
 use Rattle.printing.specs.Printed.{rowOf}
 
 -- fields appended one behind the other, each with its mark

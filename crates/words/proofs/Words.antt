@@ -5,8 +5,8 @@ use native.Mathlib.Omega.{arith}
 use native.Mathlib.Nat.{div-div-eq-div-mul, div-add-mod, mod-eq-of-lt}
 use mathlib.Core.Path.{_≡_, refl, sym, _∙_, ap, ap₂, subst}
 use mathlib.Core.List.{List, [], _∷_, _++_, append-assoc, append-nil}
-use lib.ListN.{length, take, drop, getD, length-append}
-use lib.Seq.{drop-at}
+use lib.ListN.{length, take, getD}
+use Rattle.calculus.proofs.Ranges.{Each}
 use Rattle.words.specs.Word.{wordLimit, wordOf, wordsOf, wordIn, wordsIn}
 
 -- low byte first, written by hand: 305,419,896 is 12 34 56 78 to the base 16
@@ -33,11 +33,6 @@ words-more i numbers h = ap (λ (k : ℕ). wordsOf (take k numbers)) (add-one i)
         ap (λ (l : List ℕ). wordOf n ++ l) (go i numbers (omega arith))
         ∙ sym (append-assoc (wordOf n) (wordsOf (take i numbers)) (wordOf (getD numbers i 0)))
 
--- every number of the list fits four bytes
-abbrev pub Fit : List ℕ → Type 0
-Fit [] = Unit
-Fit (n ∷ numbers) = (n < wordLimit) × Fit numbers
-
 -- digits to the base 256, put together again
 digits :
     (n a b c r₀ r₁ r₂ r₃ : ℕ) → 256 * a + r₀ ≡ n → 256 * b + r₁ ≡ a → 256 * c + r₂ ≡ b → r₃ ≡ c →
@@ -53,8 +48,8 @@ word-back n rest h =
     (subst (λ (k : ℕ). 256 * k + n / 65536 % 256 ≡ n / 65536) c (div-add-mod (n / 65536) 256))
     (mod-eq-of-lt (omega arith))
 
--- numbers that fit are read back
-pub words-back : (numbers rest : List ℕ) → Fit numbers → wordsIn (length numbers) (wordsOf numbers ++ rest) ≡ numbers
+-- numbers that fit four bytes are read back
+pub words-back : (numbers rest : List ℕ) → Each (λ (n : ℕ). n < wordLimit) numbers → wordsIn (length numbers) (wordsOf numbers ++ rest) ≡ numbers
 words-back [] rest fit = refl
 words-back (n ∷ numbers) rest fit =
     ap₂ (λ (m : ℕ) (l : List ℕ). m ∷ l) (word-back n (wordsOf numbers ++ rest) (fit .0)) (words-back numbers rest (fit .1))

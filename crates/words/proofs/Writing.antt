@@ -1,27 +1,20 @@
 -- From the tests and the turns of `append_words` to one write of all numbers: each way out as one law. Assumes nothing.
-use Prim.Native.Nat.{ℕ, _+_, _-_, _*_, _/_, _≤_, _<_}
+use Prim.Native.Nat.{ℕ, _+_, _*_, _≤_, _<_}
 use native.Mathlib.Omega.{arith}
-use mathlib.Core.Path.{_≡_, refl, sym, _∙_, ap, subst}
-use mathlib.Core.List.{List, [], _∷_, _++_}
-use lib.ListN.{length, take, getD, length-append}
+use mathlib.Core.Path.{_≡_, sym, ap, subst}
+use mathlib.Core.List.{List}
+use lib.ListN.{length, take, getD}
 use lib.Seq.{take-all, length-take-le}
-use Rattle.slices.specs.Put.{put, behind}
 use Rattle.slices.specs.Wrote.{Wrote}
-use Rattle.slices.proofs.Put.{put-short, behind-fits, behind-short}
-use Rattle.slices.proofs.Wrote.{wrote-none, wrote-put, wrote-then, wrote-is-put}
+use Rattle.slices.proofs.Wrote.{wrote-none, wrote-then}
+use Rattle.slices.proofs.Appending.{Appends, appended, wrote, appends-none}
 use Rattle.words.specs.Word.{wordOf, wordsOf}
 use Rattle.words.proofs.Words.{words-length, words-more}
 
 module _ (numbers : List ℕ) (dst : List ℕ) (at : ℕ) where
-  -- what `append_words` ensures
-  abbrev pub Appends : (end : ℕ) (dst′ : List ℕ) → Type 0
-  Appends end dst′ = (dst′ ≡ put at (wordsOf numbers) dst) × (end ≡ behind at (wordsOf numbers) dst)
-
   -- no room for all of them
-  pub words-none : length dst < at + 4 * length numbers → Appends at dst
-  words-none short =
-      let long = words-length numbers in
-      (sym (put-short at (wordsOf numbers) dst (omega arith)), sym (behind-short at (wordsOf numbers) dst (omega arith)))
+  pub words-none : length dst < at + 4 * length numbers → Appends at (wordsOf numbers) dst at dst
+  words-none short = appends-none at (wordsOf numbers) dst (omega (arith, words-length numbers))
 
   -- the first i numbers written, and room for all
   pub record So (i end : ℕ) (dst′ : List ℕ) : Type 0 where
@@ -35,12 +28,12 @@ module _ (numbers : List ℕ) (dst : List ℕ) (at : ℕ) where
   -- one number more
   pub so-next :
       (i end end′ : ℕ) (dst₁ dst₂ : List ℕ) → So i end dst₁ → i < length numbers →
-      (dst₂ ≡ put end (wordOf (getD numbers i 0)) dst₁) × (end′ ≡ behind end (wordOf (getD numbers i 0)) dst₁) → So (i + 1) end′ dst₂
-  so-next i end end′ dst₁ dst₂ so h (e, f) =
+      Appends end (wordOf (getD numbers i 0)) dst₁ end′ dst₂ → So (i + 1) end′ dst₂
+  so-next i end end′ dst₁ dst₂ so h e =
       let first = so .written in
       let so-far : end ≡ at + 4 * i = omega (arith, first .ends, words-length (take i numbers), length-take-le i numbers (so .within)) in
       let next : Wrote end end′ (wordOf (getD numbers i 0)) dst₁ dst₂ =
-      wrote-put end (wordOf (getD numbers i 0)) dst₁ (omega (arith, first .size, so .room)) e f in
+      wrote end (wordOf (getD numbers i 0)) dst₁ (omega (arith, first .size, so .room)) e in
       record {
         within = omega arith;
         room = so .room;
@@ -48,10 +41,7 @@ module _ (numbers : List ℕ) (dst : List ℕ) (at : ℕ) where
       }
 
   -- all of them
-  pub so-all : (i end : ℕ) (dst′ : List ℕ) → So i end dst′ → length numbers ≤ i → Appends end dst′
+  pub so-all : (i end : ℕ) (dst′ : List ℕ) → So i end dst′ → length numbers ≤ i → Appends at (wordsOf numbers) dst end dst′
   so-all i end dst′ so h =
-      let whole : Wrote at end (wordsOf numbers) dst dst′ =
-      subst (λ (l : List ℕ). Wrote at end l dst dst′) (ap wordsOf (take-all i numbers h)) (so .written) in (
-        wrote-is-put whole,
-        whole .ends ∙ sym (behind-fits at (wordsOf numbers) dst (omega (arith, whole .ends, whole .room))),
-      )
+      appended at (wordsOf numbers) dst
+      (subst (λ (l : List ℕ). Wrote at end l dst dst′) (ap wordsOf (take-all i numbers h)) (so .written))

@@ -1,4 +1,4 @@
--- A number as four bytes, low byte first (REQUIREMENTS, C interface).
+-- A number as four bytes, low byte first (REQUIREMENTS, Counts).
 use Prim.Native.Nat.{ℕ, zero, suc, _+_, _*_, _/_, _%_}
 use mathlib.Core.List.{List, [], _∷_, _++_}
 use lib.ListN.{drop, getD}

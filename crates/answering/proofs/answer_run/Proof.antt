@@ -35,8 +35,8 @@ returns c =
     let a = at-told .before .before .before .before .before .args in
     let told = at-told .enum-told .given .1 in
     let number : at-number .number .result ≡ numberOf OtherShape = at-number .number .ensures ∙ ap numberOf told in
-    asked-answers (a .asked) (a .term .now) (a .work .now) _ _ _ _ _ _ told
-    (prints _ _ _ (ap (λ (n : ℕ). refusedLine n 0) number) (c .before .before .print-numbers .ensures), ((refl, refl), refl))
+    asked-answers (a .asked) (a .term .now) (a .work .now) _ _ _ _ _ _ _ told
+    (prints _ _ _ (ap (λ (n : ℕ). refusedLine n 0) number) (c .before .before .print-numbers .ensures), ((refl, refl), (refl, refl)))
 
 run-request-requires : tie.Need-run-request-requires
 run-request-requires c κs = search needs
@@ -55,7 +55,7 @@ returns-2 c =
     let at-run-request = c .before .before .before .before .before .before in
     let at-asked = at-run-request .before .before .before .before .before in
     let start = at-asked .before .before .before .before .before in
-    asked-answers (start .args .asked) (start .args .term .now) (start .args .work .now) _ _ _ _ _ _ (at-asked .asked .given .1)
+    asked-answers (start .args .asked) (start .args .term .now) (start .args .work .now) _ _ _ _ _ _ _ (at-asked .asked .given .1)
     (at-run-request .run-request .ensures)
 
 pub answer-run-spec : {M : Type 1} → statement M

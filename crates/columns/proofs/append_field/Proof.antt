@@ -1,6 +1,7 @@
 -- `columns::append_field` meets its contract: the piece is the whole field, and the mark stands behind it. Assumes nothing.
 use native.Mathlib.Omega.{arith}
-use Rattle.columns.proofs.Appending.{appends-whole, appends-mark, mark-none}
+use Rattle.slices.proofs.Appending.{appends-whole}
+use Rattle.columns.proofs.Appending.{appends-mark, mark-none}
 use borrow.Author.Needs.{needs}
 use Rattle.columns.proofs.append_field.Statement.{statement}
 use Rattle.columns.proofs.append_field.Tie as tie

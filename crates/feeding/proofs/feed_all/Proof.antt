@@ -1,19 +1,23 @@
--- `feeding::feed_all` meets its contract and ends. The invariant: chunks fed led here, and the buffer keeps its length; the measure is the
+-- `feeding::feed_all` meets its contract and ends. The invariant: the reads so far led here, and the buffer keeps its length; the measure is the
 -- number of turns that are left. Assumes nothing.
-use mathlib.Core.Path.{_≡_, refl, ap}
+use mathlib.Core.Path.{_≡_, refl, sym, subst}
 use lib.ListN.{length}
+use mir.Syntax.{w64}
+use mir.Val.{toZ}
+use mir.Facts.{toZ-ofZ}
+use lib.IntN.{pos}
 use borrow.Author.Needs.{needs}
 use Rattle.line_states.specs.Fed.{startLine}
 use Rattle.line_states.specs.State.{state}
 use Rattle.line_states.specs.declared.Line.{Line}
-use Rattle.feeding.specs.Fed.{FedFrom}
-use Rattle.feeding.proofs.Feeding.{fed-none, fed-once, fed-on}
+use Rattle.feeding.specs.Fed.{ReadOn, FedAll}
+use Rattle.feeding.proofs.Feeding.{failed-told}
 use Rattle.feeding.proofs.feed_all.Statement.{statement}
 use Rattle.feeding.proofs.feed_all.Tie as tie
 
 abbrev Inv-loop : tie.InvT-loop
 Inv-loop term₀ failed line₀ got₀ turns₀ term line got turns =
-    (length term ≡ length term₀) × FedFrom (state startLine term₀) (state line term)
+    (length term ≡ length term₀) × ReadOn (state startLine term₀) (state line term) (toZ w64 got)
 
 abbrev μ-loop : tie.MeasureT-loop
 μ-loop term₀ failed line₀ got₀ turns₀ term line got turns = turns
@@ -23,7 +27,8 @@ start-requires c κs = search needs
 
 loop-holds : tie.Need-loop-holds Inv-loop μ-loop
 loop-holds c =
-    (refl, fed-none _ _ (ap (λ (l : Line). state l (c .before .before .args .term .now)) (c .start .ensures)))
+    let term = c .before .before .args .term .now in
+    (refl, subst (λ (l : Line). ReadOn (state startLine term) (state l term) (pos 1)) (sym (c .start .ensures)) ReadOn.unread)
 
 feed-some-requires : tie.Need-feed-some-requires Inv-loop μ-loop
 feed-some-requires c κs = search needs
@@ -38,13 +43,16 @@ loop-again : tie.Need-loop-again Inv-loop μ-loop
 loop-again c =
     let fed = c .before .before .feed-some in
     let at-loop = c .before .before .before .before .before .before .before in
-    (search needs, fed-on (at-loop .loop .inv .1) (fed-once (fed .last .1 .1 .0) _ _ (fed .ensures)))
+    let got = fed .last .1 .1 .0 in
+    (search needs, subst (ReadOn _ _) (sym (toZ-ofZ (fed .ensures .1))) (ReadOn.read got (at-loop .loop .inv .1) (fed .ensures .0)))
 
 same-length : tie.Need-same-length Inv-loop μ-loop
 same-length c = search needs
 
 returns : tie.Need-returns Inv-loop μ-loop
-returns c = c .before .loop .inv .1
+returns c =
+    let loop = c .before .loop in
+    record { got = toZ w64 (loop .got); reads = loop .inv .1; told = failed-told (toZ w64 (loop .got)) }
 
 pub feed-all-spec : {M : Type 1} → statement M
 feed-all-spec =

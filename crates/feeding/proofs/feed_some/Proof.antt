@@ -1,7 +1,7 @@
 -- `feeding::feed_some` meets its contract: as many bytes as the read answered were fed, none where it failed. Assumes nothing.
 use mathlib.Core.Path.{sym, subst}
 use mir.Syntax.{w64}
-use mir.Val.{toZ, ofZ}
+use mir.Val.{toZ, ofZ, SFits}
 use mir.Facts.{toZ-ofZ}
 use Rattle.libc.specs.Io.{Moved}
 use Rattle.feeding.proofs.Feeding.{fed-by}
@@ -38,13 +38,15 @@ returns c =
     let read = c .before .before .before .before .before .before .before .before .read in
     let count = c .before .before .before .before .before .count in
     let chunk = read .last .1 .0 in
-    let same = toZ-ofZ {w = w64} {z = read .result} (record { sfits = read .ok }) in
-    fed-by (toZ w64 (ofZ w64 (read .result))) chunk (count .result) 4096 _ _
-    (subst (Moved 4096) (sym same) (read .ensures))
-    (search needs)
-    (count .ensures .1)
-    (count .ensures .0 .1)
-    (c .before .before .feed .ensures)
+    let same = toZ-ofZ {w = w64} {z = read .result} (record { sfits = read .ok }) in (
+      fed-by (toZ w64 (ofZ w64 (read .result))) chunk (count .result) 4096 _ _
+          (subst (Moved 4096) (sym same) (read .ensures))
+          (search needs)
+          (count .ensures .1)
+          (count .ensures .0 .1)
+          (c .before .before .feed .ensures),
+      subst (SFits w64) (sym same) (record { sfits = read .ok }),
+    )
 
 pub feed-some-spec : {M : Type 1} → statement M
 feed-some-spec =
