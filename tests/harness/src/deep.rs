@@ -100,14 +100,7 @@ fn all_deep_terms() -> Vec<Named> {
     [deep_terms(), deep_bells()].concat()
 }
 
-type Predict = fn(&Call, Option<u64>) -> Expected;
 type PredictCounted = fn(&Counted) -> AfterCounted;
-
-fn call(text: &[u8], area: usize) -> Call {
-    let mut bytes = text.to_vec();
-    bytes.resize(area, b'#');
-    Call { area: bytes, term: text.len(), work: vec![b'w'; area] }
-}
 
 fn one_step(subject: impl Controller + Sync, text: &[u8], area: usize) -> Outcome {
     let call = call(text, area);

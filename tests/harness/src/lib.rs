@@ -7,6 +7,7 @@ pub mod count_tests;
 pub mod damage;
 pub mod deep;
 pub mod derivations;
+pub mod end_tests;
 pub mod finish_tests;
 pub mod huge;
 pub mod lent;
