@@ -26,4 +26,5 @@ pub mod table;
 pub mod terms;
 pub mod threads;
 pub mod wrong;
+pub mod wrong_ends;
 pub mod wrong_print;
