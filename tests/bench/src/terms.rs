@@ -105,8 +105,8 @@ pub const SMALL_SHAPES: [Shape; 3] = [
     (".B R^k J IRJ", |letters| joined(&[b".B", &index(letters - 6), b"IRJ"])),
 ];
 
-/// The sizes of these terms.
-pub const SMALL_SIZES: [usize; 10] = [6, 11, 20, 50, 100, 200, 250, 300, 1_000, 2_000];
+/// The sizes of these terms; the engine's table of ends is longer from 33, from 257 and from 2,049 letters on.
+pub const SMALL_SIZES: [usize; 10] = [6, 11, 32, 33, 100, 256, 257, 1_000, 2_048, 2_049];
 
 /// The sizes of the nested terms: all of them in the chart, the last two in the tables.
 pub const SIZES: [usize; 5] = [64, 256, 1_000, SMALL, LARGE];
