@@ -1,6 +1,6 @@
 -- The laws of `skip` and `endAt`: terms one behind the other are skipped one after the other, a letter is skipped with the terms that
 -- it takes, and the text of a term takes as many bytes as the term is large. Assumes nothing.
-use Prim.Native.Nat.{ℕ, zero, suc, _+_, _≤_, _<_}
+use Prim.Native.Nat.{ℕ, zero, suc, _+_, _-_, _≤_, _<_}
 use native.Mathlib.Nat.{zero-add, suc-add}
 use native.Mathlib.Numerals.{add-one}
 use native.Mathlib.Omega.{arith}
@@ -58,54 +58,74 @@ pub end-past : (s : List ℕ) (at : ℕ) → length s ≤ at → at ≡ endAt s 
 end-past s at h = omega (arith, ap (skip 1) (drop-of-length-le s h))
 
 -- the terms that a byte takes end the part that begins with it
-end-letter :
-    (s : List ℕ) (at k : ℕ) →
-    at < length s → owedBehind (letterOf (getD s at 0)) 0 ≡ k → endAt s at ≡ at + 1 + skip k (drop (at + 1) s)
+pub end-letter :
+    (s : List ℕ) (at k : ℕ) → at < length s → k ≡ owedBehind (letterOf (getD s at 0)) 0 → at + 1 + skip k (drop (at + 1) s) ≡ endAt s at
 end-letter s at k h e =
     let here : skip 1 (drop at s) ≡ suc (skip k (drop (at + 1) s)) =
     ap (skip 1) (drop-cons s at 0 h)
-    ∙ ap (λ (n : ℕ). suc (skip n (drop (suc at) s))) e
+    ∙ ap (λ (n : ℕ). suc (skip n (drop (suc at) s))) (sym e)
     ∙ ap (λ (n : ℕ). suc (skip k (drop n s))) (sym (add-one at)) in
     omega arith
 
--- a byte that takes one term or two takes as many as it is said to; any other takes none
-taken : (o : Option Letter) (k : ℕ) → (k ≡ 3 → ⊥) → arityOfLetter o ≡ k → owedBehind o 0 ≡ k
-taken none k n e = absurd (n (sym e))
-taken (some l) k n e = e
+-- a byte takes as many terms as its arity says, and none where it is no letter
+pub none-taken : (b arity : ℕ) → arity ≡ arityOf b → arity ≡ 3 → 0 ≡ owedBehind (letterOf b) 0
+unfolding arityOf
+none-taken b arity p e = go (letterOf b) (sym p ∙ e)
+  where
+    go : (o : Option Letter) → arityOfLetter o ≡ 3 → 0 ≡ owedBehind o 0
+    go none q = refl
+    go (some Letter.J) q = refl
+    go (some Letter.R) q = absurd (omega arith)
+    go (some Letter.H) q = absurd (omega arith)
+    go (some Letter.A) q = absurd (omega arith)
+    go (some Letter.I) q = refl
+    go (some Letter.B) q = absurd (omega arith)
+    go (some Letter.stop) q = absurd (omega arith)
+    go (some (Letter.bell k)) q = refl
 
-none-taken : (o : Option Letter) → (arityOfLetter o ≡ 1 → ⊥) → (arityOfLetter o ≡ 2 → ⊥) → owedBehind o 0 ≡ 0
-none-taken none n m = refl
-none-taken (some Letter.J) n m = refl
-none-taken (some Letter.R) n m = absurd (n refl)
-none-taken (some Letter.H) n m = absurd (m refl)
-none-taken (some Letter.A) n m = absurd (m refl)
-none-taken (some Letter.I) n m = refl
-none-taken (some Letter.B) n m = absurd (m refl)
-none-taken (some Letter.stop) n m = absurd (m refl)
-none-taken (some (Letter.bell b)) n m = refl
+pub some-taken : (b arity : ℕ) → arity ≡ arityOf b → ¬ (arity ≡ 3) → arity ≡ owedBehind (letterOf b) 0
+unfolding arityOf
+some-taken b arity p n = go (letterOf b) p
+  where
+    go : (o : Option Letter) → arity ≡ arityOfLetter o → arity ≡ owedBehind o 0
+    go none q = absurd (n q)
+    go (some l) q = q
 
-module _ (s : List ℕ) (at parts : ℕ) (h : at < length s) (p : parts ≡ arityOf (getD s at 0)) where
-  -- a letter that takes one term ends where that term ends
-  pub end-one : parts ≡ 1 → endAt s (at + 1) ≡ endAt s at
-  unfolding arityOf
-  end-one e = sym (end-letter s at 1 h (taken (letterOf (getD s at 0)) 1 (omega arith) (sym p ∙ e)))
+-- the terms that a byte takes are skipped one by one
+pub end-next :
+    (s : List ℕ) (at left : ℕ) → 0 < left → endAt s at + skip (left - 1) (drop (endAt s at) s) ≡ at + skip left (drop at s)
+end-next s at left h =
+    let here = drop at s in
+    let rest = left - 1 in
+    let more : 1 + rest ≡ left = omega arith in
+    let split : skip left here ≡ skip 1 here + skip rest (drop (skip 1 here) here) =
+    ap (λ (n : ℕ). skip n here) (sym more) ∙ skip-add here 1 rest in
+    omega (arith, ap (skip rest) (drop-drop (skip 1 here) at s))
 
-  -- a letter that takes two terms ends where the second ends
-  pub end-two : (mid : ℕ) → parts ≡ 2 → mid ≡ endAt s (at + 1) → endAt s mid ≡ endAt s at
-  unfolding arityOf
-  end-two mid e m =
-      let later = drop (at + 1) s in
-      let both : endAt s at ≡ at + 1 + skip 2 later = end-letter s at 2 h (taken (letterOf (getD s at 0)) 2 (omega arith) (sym p ∙ e)) in
-      let split : skip 2 later ≡ skip 1 later + skip 1 (drop (skip 1 later) later) = skip-add later 1 1 in
-      let second : drop (skip 1 later) later ≡ drop mid s = drop-drop (skip 1 later) (at + 1) s ∙ ap (λ (n : ℕ). drop n s) (sym m) in
-      omega (arith, ap (skip 1) second)
+-- and where none is left, the part ends
+pub end-last : (s : List ℕ) (at end left : ℕ) → left ≤ 0 → end + skip left (drop end s) ≡ endAt s at → end ≡ endAt s at
+end-last s at end left h e =
+    let none : left ≡ 0 = omega arith in
+    omega (arith, ap (λ (n : ℕ). skip n (drop end s)) none, skip-none (drop end s))
 
-  -- any other byte is a part by itself
-  pub end-leaf : (parts ≡ 1 → ⊥) → (parts ≡ 2 → ⊥) → at + 1 ≡ endAt s at
-  unfolding arityOf
-  end-leaf n m =
-      let alone = none-taken (letterOf (getD s at 0)) (λ e. n (p ∙ e)) (λ e. m (p ∙ e)) in
-      omega (arith, end-letter s at 0 h alone, skip-none (drop (at + 1) s))
+-- ---- parts of parts
+
+-- what begins within k terms ends within them
+skip-nested : (s : List ℕ) (k i : ℕ) → i < skip k s → i + skip 1 (drop i s) ≤ skip k s
+skip-nested [] k i h = absurd (omega arith)
+skip-nested (b ∷ s) zero i h = absurd (omega arith)
+skip-nested (b ∷ s) (suc k) zero h =
+    let more : suc k ≡ 1 + k = omega arith in
+    omega (arith, ap (λ (n : ℕ). skip n (b ∷ s)) more, skip-add (b ∷ s) 1 k)
+skip-nested (b ∷ s) (suc k) (suc i) h = omega (arith, skip-nested s (owedBehind (letterOf b) k) i (omega arith))
+
+-- a part that begins in another ends in it
+pub end-nested : (s : List ℕ) (from i : ℕ) → from ≤ i → i < endAt s from → endAt s i ≤ endAt s from
+end-nested s from i h k =
+    let j = i - from in
+    let sum : from + j ≡ i = omega arith in
+    let there : drop j (drop from s) ≡ drop i s = drop-drop j from s ∙ ap (λ (n : ℕ). drop n s) sum in
+    omega (arith, skip-nested (drop from s) 1 j (omega arith), ap (skip 1) there)
 
 -- ---- texts
 

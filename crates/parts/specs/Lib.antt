@@ -1,1 +1,2 @@
 pub mod Skip
+pub mod Ends

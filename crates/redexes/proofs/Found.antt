@@ -1,18 +1,21 @@
--- What the search ends at in the text of a term: its redex, or the end of the text where the term has none. Assumes nothing.
+-- What the search ends at in the text of a term: its redex, where the text has a full stop. Assumes nothing.
 use Prim.Native.Nat.{ℕ, _<_}
 use native.Mathlib.Omega.{arith}
-use mathlib.Core.Path.{_≡_, sym, _∙_, ap, subst}
+use mathlib.Core.Path.{_≡_, _∙_, ap, subst}
 use mathlib.Core.List.{[], _++_, append-nil}
 use lib.ListN.{length, length-append}
 use Rattle.calculus.specs.Letter.{Letter, byte}
 use Rattle.calculus.specs.Term.{Term, text, size}
 use Rattle.calculus.proofs.PrefixCode.{length-text}
+use Rattle.calculus.specs.Order.{Next, next}
+use Rattle.parts.specs.Skip.{endAt}
+use Rattle.parts.specs.Ends.{Ends}
 use Rattle.slices.specs.Find.{indexOf}
 use Rattle.slices.proofs.Finding.{Lacks, index-behind}
 use Rattle.redexes.specs.Moves.{Leads}
-use Rattle.redexes.specs.Spot.{Spot, Found}
+use Rattle.redexes.specs.Spot.{Spot, Redex}
 use Rattle.redexes.proofs.Starts.{Start, start}
-use Rattle.redexes.proofs.Moves.{leads-end, leads-spot}
+use Rattle.redexes.proofs.Moves.{spot-end, leads-redex}
 
 -- a spot lies within the text
 pub spot-within : {t : Term} {p : ℕ} → Spot t p → p < size t
@@ -46,15 +49,23 @@ spot-first spot n =
       spot .place,
     )
 
-pub search-found : (t : Term) {r : ℕ} → Leads (text t) (indexOf (byte Letter.stop) (text t)) r → Found t r
-search-found t {r} leads = go (start t)
+-- where no full stop is found, nothing comes next
+pub first-none : (t : Term) → indexOf (byte Letter.stop) (text t) ≡ size t → next t ≡ Next.stop
+first-none t h = go (start t)
   where
-    go : Start t → Found t r
-    go (Start.nowhere n e) =
-        let first = nowhere-end t n in
-        let same : r ≡ size t = leads-end (omega (arith, length-text t)) leads ∙ first in
-        subst (Found t) (sym same) (Found.nothing e)
+    go : Start t → next t ≡ Next.stop
+    go (Start.nowhere n e) = e
+    go (Start.at spot n) = absurd (omega (arith, spot-first spot n, spot-within spot))
+
+-- else the search from the first one, by the ends of the part that it begins, ends at the redex
+pub search-found :
+    (t : Term) (first : ℕ) {endOf : ℕ → ℕ} {r : ℕ} → first ≡ indexOf (byte Letter.stop) (text t) → ¬ (first ≡ size t) →
+    Ends endOf (text t) first (endAt (text t) first) → Leads endOf (text t) first r → Redex t first r
+search-found t first {endOf} {r} e some right leads = go (start t)
+  where
+    go : Start t → Redex t first r
+    go (Start.nowhere n q) = absurd (some (e ∙ nowhere-end t n))
     go (Start.at {p = p} spot n) =
-        let from : Leads (text t) p r = subst (λ (i : ℕ). Leads (text t) i r) (spot-first spot n) leads in
-        let (found, move) = leads-spot spot from in
-        Found.redex found move
+        let same : first ≡ p = e ∙ spot-first spot n in
+        let from : Leads endOf (text t) p r = subst (λ (i : ℕ). Leads endOf (text t) i r) same leads in
+        leads-redex right spot (omega arith) (omega (arith, spot-end spot, ap (endAt (text t)) same)) from

@@ -10,12 +10,14 @@ use lib.ListN.{length, getD, length-append, List·getD-eq-default}
 use Rattle.calculus.specs.Letter.{Letter, byte}
 use Rattle.calculus.specs.Term.{Term, text, size}
 use Rattle.calculus.specs.Order.{Next, next, within}
-use Rattle.calculus.proofs.PrefixCode.{length-text}
+use Rattle.calculus.proofs.PrefixCode.{length-text, size-positive}
 use Rattle.parts.specs.Skip.{endAt}
+use Rattle.parts.specs.Ends.{Ends}
+use Rattle.parts.proofs.Skip.{end-text, end-nested}
 use Rattle.calculus.proofs.Heads.{is-app, is-pair}
 use Rattle.parts.proofs.Laid.{Laid, function-head, function-end, argument-head}
 use Rattle.redexes.specs.Moves.{Move, Leads}
-use Rattle.redexes.specs.Spot.{Spot}
+use Rattle.redexes.specs.Spot.{Spot, Redex}
 
 -- ---- one move of the search
 
@@ -64,17 +66,10 @@ in-argument {t} {p} spot u s f a q r =
 pub spot-laid : {t : Term} {p : ℕ} (spot : Spot t p) → Laid (text t) (spot .front) (spot .function) (spot .argument) (spot .back) p
 spot-laid spot = record { whole = spot .spelt ∙ simp (append-assoc, append-nil); place = spot .place }
 
--- where the search goes on, it goes to a spot
-pub move-spot : {t : Term} {p q : ℕ} → Spot t p → Move (text t) p q → ¬ (q ≡ p) → Spot t q
-move-spot spot (Move.function e) n =
-    let app = is-app (spot .function) (sym (function-head (spot-laid spot)) ∙ e) in
-    in-function spot (app .0) (app .1) (app .2)
-move-spot spot (Move.argument {end = end} m e k) n =
-    let laid = spot-laid spot in
-    let pair = is-pair (spot .function) (sym (function-head laid) ∙ e) in
-    let app = is-app (spot .argument) (sym (argument-head laid end m) ∙ k) in
-    rw (m ∙ function-end laid) (in-argument spot (pair .0) (pair .1) (app .0) (app .1) (pair .2) (app .2))
-move-spot spot (Move.here m k) n = absurd (n refl)
+-- the application of a spot ends behind its text
+pub spot-end : {t : Term} {p : ℕ} (spot : Spot t p) → endAt (text t) p ≡ p + size (Term.app (spot .function) (spot .argument))
+spot-end {t} {p} spot =
+    end-text (text t) (spot .front) (Term.app (spot .function) (spot .argument)) (spot .back) p (spot .spelt) (spot .place)
 
 -- a byte that is not 0 stands in the list
 byte-within : (s : List ℕ) (at : ℕ) → getD s at 0 ≡ byte Letter.stop → at < length s
@@ -84,46 +79,75 @@ byte-within s at e = go (decLt at (length s))
     go (yes k) = k
     go (no k) = absurd (omega (arith, List·getD-eq-default s 0 {n = at} (omega arith)))
 
--- where the search goes on, it goes to the right, and stays within the list
-pub move-within : {s : List ℕ} {p q : ℕ} → Move s p q → ¬ (q ≡ p) → (p < q) × (q < length s)
-move-within {s} {p} (Move.function e) n = (omega arith, byte-within s (p + 1) e)
-move-within {s} (Move.argument {end = end} m e k) n = (omega arith, byte-within s end k)
-move-within (Move.here m k) n = absurd (n refl)
+module _ {endOf : ℕ → ℕ} where
+  -- where the search goes on, it stays within the list
+  pub move-within : {s : List ℕ} {p q : ℕ} → Move endOf s p q → p < q → q < length s
+  move-within {s} {p} (Move.function e) n = byte-within s (p + 1) e
+  move-within {s} (Move.argument {end = end} m e k) n = byte-within s end k
+  move-within (Move.here m k) n = absurd (omega arith)
 
--- where it goes no further, neither its function nor the argument of its pair is an application
-pub move-stays :
-    {s : List ℕ} {p q : ℕ} → Move s p q → q ≡ p →
-    ¬ (getD s (p + 1) 0 ≡ byte Letter.stop) × (getD s (p + 1) 0 ≡ byte Letter.B → ¬ (getD s (endAt s (p + 1)) 0 ≡ byte Letter.stop))
-move-stays (Move.function e) n = absurd (omega arith)
-move-stays (Move.argument m e k) n = absurd (omega arith)
-move-stays (Move.here m k) n = (m, k)
+  -- past the end it goes nowhere
+  pub move-past : (s : List ℕ) (p : ℕ) → length s ≤ p → Move endOf s p p
+  move-past s p h =
+      let none : getD s (p + 1) 0 ≡ 0 = List·getD-eq-default s 0 {n = p + 1} (omega arith) in
+      Move.here (λ e. omega (arith, none)) (λ e. absurd (omega (arith, none)))
 
--- ---- where the moves end
+  -- one move is all that there is from a place, and so is where the moves from it end
+  pub move-unique : {s : List ℕ} {p q r : ℕ} → Move endOf s p q → Move endOf s p r → q ≡ r
+  move-unique (Move.function e) (Move.function k) = refl
+  move-unique (Move.function e) (Move.argument m k l) = absurd (omega arith)
+  move-unique (Move.function e) (Move.here n k) = absurd (n e)
+  move-unique (Move.argument m e l) (Move.function k) = absurd (omega arith)
+  move-unique (Move.argument m e l) (Move.argument n k j) = m ∙ sym n
+  move-unique {s} (Move.argument m e l) (Move.here n k) = absurd (k e (ap (λ (i : ℕ). getD s i 0) (sym m) ∙ l))
+  move-unique (Move.here n k) (Move.function e) = absurd (n e)
+  move-unique {s} (Move.here n k) (Move.argument m e l) = absurd (k e (ap (λ (i : ℕ). getD s i 0) (sym m) ∙ l))
+  move-unique (Move.here n k) (Move.here m j) = refl
 
--- one move is all that there is from a place, and so is where the moves from it end
-pub move-unique : {s : List ℕ} {p q r : ℕ} → Move s p q → Move s p r → q ≡ r
-move-unique (Move.function e) (Move.function k) = refl
-move-unique (Move.function e) (Move.argument m k l) = absurd (omega arith)
-move-unique (Move.function e) (Move.here n k) = absurd (n e)
-move-unique (Move.argument m e l) (Move.function k) = absurd (omega arith)
-move-unique (Move.argument m e l) (Move.argument n k j) = m ∙ sym n
-move-unique {s} (Move.argument m e l) (Move.here n k) = absurd (k e (ap (λ (i : ℕ). getD s i 0) (sym m) ∙ l))
-move-unique (Move.here n k) (Move.function e) = absurd (n e)
-move-unique {s} (Move.here n k) (Move.argument m e l) = absurd (k e (ap (λ (i : ℕ). getD s i 0) (sym m) ∙ l))
-move-unique (Move.here n k) (Move.here m j) = refl
+  pub leads-unique : {s : List ℕ} {p q r : ℕ} → Leads endOf s p q → Leads endOf s p r → q ≡ r
+  leads-unique (Leads.ends m h) (Leads.ends n k) = refl
+  leads-unique (Leads.ends m h) (Leads.goes n k l) = absurd (omega (arith, move-unique n m))
+  leads-unique (Leads.goes n k l) (Leads.ends m h) = absurd (omega (arith, move-unique n m))
+  leads-unique {s} {r = r} (Leads.goes m h l) (Leads.goes n k j) =
+      leads-unique l (subst (λ (i : ℕ). Leads endOf s i r) (move-unique n m) j)
 
-pub leads-unique : {s : List ℕ} {p q r : ℕ} → Leads s p q → Leads s p r → q ≡ r
-leads-unique (Leads.ends m) (Leads.ends n) = refl
-leads-unique (Leads.ends m) (Leads.goes n k l) = absurd (k (move-unique n m))
-leads-unique (Leads.goes n k l) (Leads.ends m) = absurd (k (move-unique n m))
-leads-unique {s} {r = r} (Leads.goes m e l) (Leads.goes n k j) = leads-unique l (subst (λ (i : ℕ). Leads s i r) (move-unique n m) j)
+  -- ---- moves from a spot, where endOf has the end of its function
 
--- from the end of the bytes on they go nowhere
-pub leads-end : {s : List ℕ} {p r : ℕ} → length s ≤ p → Leads s p r → r ≡ p
-leads-end h (Leads.ends m) = refl
-leads-end h (Leads.goes m n l) = absurd (omega (arith, move-within m n))
+  -- where the search goes on, it goes to a spot, and that begins in the application that it comes from
+  move-spot :
+      {t : Term} {p q : ℕ} (spot : Spot t p) → endOf (p + 1) ≡ endAt (text t) (p + 1) → Move endOf (text t) p q → p < q →
+      Spot t q × (q < p + size (Term.app (spot .function) (spot .argument)))
+  move-spot spot right (Move.function e) h =
+      let app = is-app (spot .function) (sym (function-head (spot-laid spot)) ∙ e) in
+      (in-function spot (app .0) (app .1) (app .2), omega (arith, size-positive (spot .argument)))
+  move-spot {t} spot right (Move.argument {end = end} m e k) h =
+      let laid = spot-laid spot in
+      let there : end ≡ endAt (text t) _ = m ∙ right in
+      let pair = is-pair (spot .function) (sym (function-head laid) ∙ e) in
+      let app = is-app (spot .argument) (sym (argument-head laid end there) ∙ k) in
+      let next = in-argument spot (pair .0) (pair .1) (app .0) (app .1) (pair .2) (app .2) in (
+        rw (there ∙ function-end laid) next,
+        omega (arith, there, function-end laid, size-positive (spot .argument)),
+      )
+  move-spot spot right (Move.here m k) h = absurd (omega arith)
 
--- from a spot they end at a spot
-pub leads-spot : {t : Term} {p r : ℕ} → Spot t p → Leads (text t) p r → Spot t r × Move (text t) r r
-leads-spot spot (Leads.ends m) = (spot, m)
-leads-spot spot (Leads.goes m n l) = leads-spot (move-spot spot m n) l
+  -- where it goes no further, neither its function nor the argument of its pair is an application
+  move-stays :
+      {s : List ℕ} {p q : ℕ} → endOf (p + 1) ≡ endAt s (p + 1) → Move endOf s p q → q ≤ p →
+      ¬ (getD s (p + 1) 0 ≡ byte Letter.stop) × (getD s (p + 1) 0 ≡ byte Letter.B → ¬ (getD s (endAt s (p + 1)) 0 ≡ byte Letter.stop))
+  move-stays right (Move.function e) h = absurd (omega arith)
+  move-stays right (Move.argument m e k) h = absurd (omega arith)
+  move-stays {s} right (Move.here m k) h = (m, λ b e. k b (ap (λ (i : ℕ). getD s i 0) right ∙ e))
+
+  -- from a spot in the part at `from`, whose ends endOf has, they end at the redex
+  pub leads-redex :
+      {t : Term} {from p r : ℕ} → Ends endOf (text t) from (endAt (text t) from) → (spot : Spot t p) → from ≤ p →
+      p + size (Term.app (spot .function) (spot .argument)) ≤ endAt (text t) from → Leads endOf (text t) p r → Redex t from r
+  leads-redex {p = p} right spot h k (Leads.ends m l) =
+      let (no-function, no-argument) = move-stays (right (p + 1) (omega arith) (omega (arith, size-positive (spot .argument)))) m l in
+      record { spot = spot; begins = h; ends = k; no-function = no-function; no-argument = no-argument }
+  leads-redex {t} {from} {p} right spot h k (Leads.goes {q = q} m l later) =
+      let (there, before) = move-spot spot (right (p + 1) (omega arith) (omega (arith, size-positive (spot .argument)))) m l in
+      leads-redex right there (omega arith)
+      (omega (arith, spot-end there, end-nested (text t) from q (omega arith) (omega arith)))
+      later

@@ -9,9 +9,10 @@ use lib.ListN.{length, getD, length-append}
 use Rattle.calculus.specs.Letter.{Letter, byte}
 use Rattle.calculus.specs.Term.{Term, text, size}
 use Rattle.calculus.specs.Order.{Next, next}
-use Rattle.calculus.proofs.PrefixCode.{length-text}
+use Rattle.calculus.proofs.PrefixCode.{length-text, size-positive}
 use Rattle.slices.specs.Part.{part}
 use Rattle.parts.specs.Skip.{endAt}
+use Rattle.parts.specs.Ends.{Ends}
 use Rattle.calculus.proofs.Heads.{headOf}
 use Rattle.parts.proofs.Pieces.{flat, part-flat, end-flat}
 use Rattle.parts.proofs.Laid.{Laid, around, function-head, function-end, argument-head, laid-length}
@@ -62,6 +63,7 @@ module _ {s front back : List ℕ} {p : ℕ} where
         exact = λ h. omega arith;
       }
 
+  -- rule 5
   identity-fires :
       {a : Term} → Laid s front Term.I a back p → Fires Term.I a front back s (picked 5 p nothing (p + 2))
   identity-fires {a} laid =
@@ -81,25 +83,27 @@ module _ {s front back : List ℕ} {p : ℕ} where
         exact = λ h. omega arith;
       }
 
+  -- rule 4
   closure-fires :
-      {v t a : Term} → Laid s front (Term.A v t) a back p →
-      Fires (Term.A v t) a front back s (closureOf s p)
-  closure-fires {v} {t} {a} laid =
+      (endOf : ℕ → ℕ) {v t a : Term} → Laid s front (Term.A v t) a back p → Ends endOf s p (p + size (Term.app (Term.A v t) a)) →
+      Fires (Term.A v t) a front back s (closureOf endOf p)
+  closure-fires endOf {v} {t} {a} laid right =
       let xs = front ∷ (byte Letter.stop ∷ []) ∷ (byte Letter.A ∷ []) ∷ text v ∷ text t ∷ text a ∷ back ∷ [] in
       let whole : s ≡ flat xs = laid .whole ∙ simp append-assoc in
       let place : p ≡ length front = laid .place in
       let sv : length (text v) ≡ size v = length-text v in
       let st : length (text t) ≡ size t = length-text t in
       let sa : length (text a) ≡ size a = length-text a in
-      let end = endAt s (p + 1) in
-      let third = endAt s end in
-      let e : end ≡ p + 2 + size v + size t = omega (arith, function-end laid) in
-      let d : third ≡ end + size a = end-flat xs whole 5 a (back ∷ []) refl end (omega arith) in
+      let some-a : 0 < size a = size-positive a in
+      let end = endOf (p + 1) in
+      let third = endOf end in
+      let e : end ≡ p + 2 + size v + size t = omega (arith, right (p + 1) (omega arith) (omega arith), function-end laid) in
+      let d : third ≡ end + size a = right end (omega arith) (omega arith) ∙ end-flat xs whole 5 a (back ∷ []) refl end (omega arith) in
       record {
         value = Term.app (Term.B a v) t;
         step = refl;
         spelt =
-            pieced (closureOf s p) s
+            pieced (closureOf endOf p) s
             (part-flat xs whole 0 2 0 (p + 1) refl (omega arith))
             (part-flat xs whole 5 1 end third (omega arith) (omega arith))
             (part-flat xs whole 3 2 (p + 2) end (omega arith) (omega arith))
@@ -166,10 +170,12 @@ pair-grows u s on = omega (arith, length-text u, length-text s)
 
 -- where the first part of the argument ends
 third-of :
-    {x front u s : List ℕ} {b : ℕ} (r : Term) {t back : List ℕ} {p mid end : ℕ} →
-    OnPieces x front u s b (text r) t back p mid end → endAt x (end + 1) ≡ end + 1 + length (text r)
-third-of {front = front} {u} {s} {b} r {t} {back} {end = end} on =
-    end-flat (onPieces front u s b (text r) t back) (on .whole) 6 r (t ∷ back ∷ []) refl (end + 1) (omega arith)
+    (endOf : ℕ → ℕ) {x front u s : List ℕ} {b : ℕ} (r : Term) {t back : List ℕ} {p mid end to : ℕ} →
+    OnPieces x front u s b (text r) t back p mid end → Ends endOf x p to → end + 1 + size r ≤ to →
+    endOf (end + 1) ≡ end + 1 + length (text r)
+third-of endOf {front = front} {u} {s} {b} r {t} {back} {end = end} on right h =
+    right (end + 1) (omega arith) (omega (arith, size-positive r))
+    ∙ end-flat (onPieces front u s b (text r) t back) (on .whole) 6 r (t ∷ back ∷ []) refl (end + 1) (omega arith)
     ∙ ap (λ (n : ℕ). end + 1 + n) (sym (length-text r))
 
 module _ {x front : List ℕ} {u s : Term} {back : List ℕ} {p mid end : ℕ} where
@@ -293,29 +299,33 @@ module _ {x front : List ℕ} {u s : Term} {back : List ℕ} {p mid end : ℕ} w
 
 -- ---- the rule that applies
 
-module _ {x front : List ℕ} {u s : Term} {back : List ℕ} {p : ℕ} where
+module _ (endOf : ℕ → ℕ) {x front : List ℕ} {u s : Term} {back : List ℕ} {p : ℕ} where
   -- where the parts of a pair end
   pair-ends :
-      {a : Term} → Laid x front (Term.B u s) a back p →
-      (endAt x (p + 2) ≡ p + 2 + length (text u)) × (endAt x (endAt x (p + 2)) ≡ endAt x (p + 2) + length (text s))
-  pair-ends {a} laid =
+      {a : Term} → Laid x front (Term.B u s) a back p → Ends endOf x p (p + size (Term.app (Term.B u s) a)) →
+      (endOf (p + 2) ≡ p + 2 + length (text u)) × (endOf (endOf (p + 2)) ≡ endOf (p + 2) + length (text s))
+  pair-ends {a} laid right =
       let xs = front ∷ (byte Letter.stop ∷ []) ∷ (byte Letter.B ∷ []) ∷ text u ∷ text s ∷ text a ∷ back ∷ [] in
       let whole : x ≡ flat xs = laid .whole ∙ simp append-assoc in
       let place : p ≡ length front = laid .place in
       let su : length (text u) ≡ size u = length-text u in
       let ss : length (text s) ≡ size s = length-text s in
-      let m : endAt x (p + 2) ≡ p + 2 + size u = end-flat xs whole 3 u (text s ∷ text a ∷ back ∷ []) refl (p + 2) (omega arith) in
-      let n : endAt x (endAt x (p + 2)) ≡ endAt x (p + 2) + size s =
-      end-flat xs whole 4 s (text a ∷ back ∷ []) refl (endAt x (p + 2)) (omega arith) in
+      let some-u : 0 < size u = size-positive u in
+      let some-s : 0 < size s = size-positive s in
+      let m : endOf (p + 2) ≡ p + 2 + size u =
+      right (p + 2) (omega arith) (omega arith) ∙ end-flat xs whole 3 u (text s ∷ text a ∷ back ∷ []) refl (p + 2) (omega arith) in
+      let n : endOf (endOf (p + 2)) ≡ endOf (p + 2) + size s =
+      right (endOf (p + 2)) (omega arith) (omega arith)
+      ∙ end-flat xs whole 4 s (text a ∷ back ∷ []) refl (endOf (p + 2)) (omega arith) in
       (omega arith, omega arith)
 
   -- the pieces of a pair on an argument, by the letter of the argument
   on-pieces :
       {a : Term} (b : ℕ) (r t : List ℕ) → text a ≡ b ∷ (r ++ t) →
-      Laid x front (Term.B u s) a back p →
-      OnPieces x front (text u) (text s) b r t back p (endAt x (p + 2)) (endAt x (endAt x (p + 2)))
-  on-pieces {a} b r t e laid =
-      let ends = pair-ends laid in
+      Laid x front (Term.B u s) a back p → Ends endOf x p (p + size (Term.app (Term.B u s) a)) →
+      OnPieces x front (text u) (text s) b r t back p (endOf (p + 2)) (endOf (endOf (p + 2)))
+  on-pieces {a} b r t e laid right =
+      let ends = pair-ends laid right in
       record {
         whole =
             laid .whole
@@ -329,53 +339,62 @@ module _ {x front : List ℕ} {u s : Term} {back : List ℕ} {p : ℕ} where
 
   -- a pair, by its argument
   pair-fires :
-      (a : Term) → Laid x front (Term.B u s) a back p →
+      (a : Term) → Laid x front (Term.B u s) a back p → Ends endOf x p (p + size (Term.app (Term.B u s) a)) →
       ¬ (headOf a ≡ Letter.stop) →
-      Fires (Term.B u s) a front back x (onPair (some (headOf a)) x p (endAt x (p + 2)) (endAt x (endAt x (p + 2))))
-  pair-fires Term.J laid n = first-fires (on-pieces (byte Letter.J) [] [] refl laid)
-  pair-fires (Term.R t) laid n = second-fires (on-pieces (byte Letter.R) (text t) [] (simp append-nil) laid)
-  pair-fires (Term.H r t) laid n = let on = on-pieces (byte Letter.H) (text r) (text t) refl laid in both-fires (third-of r on) on
-  pair-fires (Term.A r t) laid n = let on = on-pieces (byte Letter.A) (text r) (text t) refl laid in closed-fires (third-of r on) on
-  pair-fires Term.I laid n = left-fires 10 (byte Letter.I) Term.I refl refl (on-pieces (byte Letter.I) [] [] refl laid)
-  pair-fires (Term.B r t) laid n = let on = on-pieces (byte Letter.B) (text r) (text t) refl laid in paired-fires (third-of r on) on
-  pair-fires (Term.app f a) laid n = absurd (n refl)
-  pair-fires (Term.bell k) laid n =
-      left-fires 13 (byte (Letter.bell k)) (Term.bell k) refl refl (on-pieces (byte (Letter.bell k)) [] [] refl laid)
+      Fires (Term.B u s) a front back x (onPair (some (headOf a)) endOf x p (endOf (p + 2)) (endOf (endOf (p + 2))))
+  pair-fires Term.J laid right n = first-fires (on-pieces (byte Letter.J) [] [] refl laid right)
+  pair-fires (Term.R t) laid right n = second-fires (on-pieces (byte Letter.R) (text t) [] (simp append-nil) laid right)
+  pair-fires (Term.H r t) laid right n =
+      let on = on-pieces (byte Letter.H) (text r) (text t) refl laid right in
+      both-fires (third-of endOf r on right (omega (arith, length-text u, length-text s))) on
+  pair-fires (Term.A r t) laid right n =
+      let on = on-pieces (byte Letter.A) (text r) (text t) refl laid right in
+      closed-fires (third-of endOf r on right (omega (arith, length-text u, length-text s))) on
+  pair-fires Term.I laid right n = left-fires 10 (byte Letter.I) Term.I refl refl (on-pieces (byte Letter.I) [] [] refl laid right)
+  pair-fires (Term.B r t) laid right n =
+      let on = on-pieces (byte Letter.B) (text r) (text t) refl laid right in
+      paired-fires (third-of endOf r on right (omega (arith, length-text u, length-text s))) on
+  pair-fires (Term.app f a) laid right n = absurd (n refl)
+  pair-fires (Term.bell k) laid right n =
+      left-fires 13 (byte (Letter.bell k)) (Term.bell k) refl refl (on-pieces (byte (Letter.bell k)) [] [] refl laid right)
 
   -- the pair's case is that of the first letter of its argument
   pair-letter :
-      {a : Term} → Laid x front (Term.B u s) a back p →
-      onPair (some (headOf a)) x p (endAt x (p + 2)) (endAt x (endAt x (p + 2))) ≡ pairOf x p
-  pair-letter {a} laid =
-      let ends = pair-ends laid in
-      let same : endAt x (endAt x (p + 2)) ≡ endAt x (p + 1) = omega (arith, function-end laid, length-text u, length-text s) in
+      {a : Term} → Laid x front (Term.B u s) a back p → Ends endOf x p (p + size (Term.app (Term.B u s) a)) →
+      onPair (some (headOf a)) endOf x p (endOf (p + 2)) (endOf (endOf (p + 2))) ≡ pairOf endOf x p
+  pair-letter {a} laid right =
+      let ends = pair-ends laid right in
+      let same : endOf (endOf (p + 2)) ≡ endAt x (p + 1) = omega (arith, function-end laid, length-text u, length-text s) in
       by-letter
-      (λ (o : Option Letter). onPair o x p (endAt x (p + 2)) (endAt x (endAt x (p + 2))))
-      (getD x (endAt x (endAt x (p + 2))) 0)
+      (λ (o : Option Letter). onPair o endOf x p (endOf (p + 2)) (endOf (endOf (p + 2))))
+      (getD x (endOf (endOf (p + 2))) 0)
       (headOf a)
-      (argument-head laid (endAt x (endAt x (p + 2))) same)
+      (argument-head laid (endOf (endOf (p + 2))) same)
 
 module _ {x front back : List ℕ} {p : ℕ} where
   -- the rewrite at p makes the next step, where neither the function nor the argument of a pair is an application
+  -- and endOf has the ends of the application's parts
   function-fires :
-      (f a : Term) → Laid x front f a back p →
+      (endOf : ℕ → ℕ) (f a : Term) → Laid x front f a back p → Ends endOf x p (p + size (Term.app f a)) →
       ¬ (byte (headOf f) ≡ byte Letter.stop) → (byte (headOf f) ≡ byte Letter.B → ¬ (headOf a ≡ Letter.stop)) →
-      Fires f a front back x (onFunction (some (headOf f)) x p)
-  function-fires Term.J a laid n m = frozen-fires 1 refl laid
-  function-fires (Term.R t) a laid n m = frozen-fires 2 refl laid
-  function-fires (Term.H r t) a laid n m = frozen-fires 3 refl laid
-  function-fires (Term.A s t) a laid n m = closure-fires laid
-  function-fires Term.I a laid n m = identity-fires laid
-  function-fires (Term.B u s) a laid n m = subst (Fires (Term.B u s) a front back x) (pair-letter laid) (pair-fires a laid (m refl))
-  function-fires (Term.app f b) a laid n m = absurd (n refl)
-  function-fires (Term.bell k) a laid n m = frozen-fires 12 refl laid
+      Fires f a front back x (onFunction (some (headOf f)) endOf x p)
+  function-fires endOf Term.J a laid right n m = frozen-fires 1 refl laid
+  function-fires endOf (Term.R t) a laid right n m = frozen-fires 2 refl laid
+  function-fires endOf (Term.H r t) a laid right n m = frozen-fires 3 refl laid
+  function-fires endOf (Term.A s t) a laid right n m = closure-fires endOf laid right
+  function-fires endOf Term.I a laid right n m = identity-fires laid
+  function-fires endOf (Term.B u s) a laid right n m =
+      subst (Fires (Term.B u s) a front back x) (pair-letter endOf laid right) (pair-fires endOf a laid right (m refl))
+  function-fires endOf (Term.app f b) a laid right n m = absurd (n refl)
+  function-fires endOf (Term.bell k) a laid right n m = frozen-fires 12 refl laid
 
+  -- the same, by the bytes where the function and the argument begin
   pub fires :
-      (f a : Term) → Laid x front f a back p →
+      (endOf : ℕ → ℕ) (f a : Term) → Laid x front f a back p → Ends endOf x p (p + size (Term.app f a)) →
       ¬ (getD x (p + 1) 0 ≡ byte Letter.stop) → (getD x (p + 1) 0 ≡ byte Letter.B → ¬ (getD x (endAt x (p + 1)) 0 ≡ byte Letter.stop)) →
-      Fires f a front back x (rewriteOf x p)
-  fires f a laid n m =
-      subst (Fires f a front back x) (rewrite-letter x p (getD x (p + 1) 0) refl (headOf f) (function-head laid))
-      (function-fires f a laid
+      Fires f a front back x (rewriteOf endOf x p)
+  fires endOf f a laid right n m =
+      subst (Fires f a front back x) (rewrite-letter endOf x p (getD x (p + 1) 0) refl (headOf f) (function-head laid))
+      (function-fires endOf f a laid right
       (λ e. n (function-head laid ∙ e))
       (λ e q. m (function-head laid ∙ e) (argument-head laid (endAt x (p + 1)) refl ∙ ap byte q)))

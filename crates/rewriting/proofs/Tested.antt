@@ -11,7 +11,6 @@ use Rattle.calculus.specs.Bell.{isBell}
 use Rattle.calculus.specs.Letter.{Letter, byte, letterOf}
 use Rattle.calculus.proofs.Bells.{bell-letter, letter-bell}
 use Rattle.calculus.proofs.PrefixCode.{letterOf-byte, byte-letterOf}
-use Rattle.parts.specs.Skip.{endAt}
 use Rattle.rewriting.specs.declared.Rewrite.{Rewrite}
 use Rattle.rewriting.specs.Rewriting.{between, nothing, entered, frozen, picked, unchanged, onPair, pairOf, onFunction, rewriteOf}
 
@@ -44,50 +43,51 @@ by-others f w b other o q = go (letterOf b) refl
     go (some (Letter.bell k)) e =
         absurd (false≢true (sym (other .no-bell) ∙ ap isBell (sym (byte-letterOf b (Letter.bell k) e)) ∙ bell-letter k))
 
-module _ (s : List ℕ) (p mid end : ℕ) (b : ℕ) (q : b ≡ getD s end 0) where
-  same-pair : onPair (letterOf b) s p mid end ≡ onPair (letterOf (getD s end 0)) s p mid end
-  same-pair = ap (λ (c : ℕ). onPair (letterOf c) s p mid end) q
+module _ (endOf : ℕ → ℕ) (s : List ℕ) (p mid end : ℕ) (b : ℕ) (q : b ≡ getD s end 0) where
+  same-pair : onPair (letterOf b) endOf s p mid end ≡ onPair (letterOf (getD s end 0)) endOf s p mid end
+  same-pair = ap (λ (c : ℕ). onPair (letterOf c) endOf s p mid end) q
 
   -- the first letter of the argument picks what a pair's rule makes of the text
-  pub pair-letter : (l : Letter) → b ≡ byte l → onPair (some l) s p mid end ≡ onPair (letterOf (getD s end 0)) s p mid end
-  pair-letter l n = by-letter (λ (o : Option Letter). onPair o s p mid end) b l n ∙ same-pair
+  pub pair-letter : (l : Letter) → b ≡ byte l → onPair (some l) endOf s p mid end ≡ onPair (letterOf (getD s end 0)) endOf s p mid end
+  pair-letter l n = by-letter (λ (o : Option Letter). onPair o endOf s p mid end) b l n ∙ same-pair
 
-  pub pair-bell : isBell b ≡ true → picked 13 p nothing end ≡ onPair (letterOf (getD s end 0)) s p mid end
+  pub pair-bell : isBell b ≡ true → picked 13 p nothing end ≡ onPair (letterOf (getD s end 0)) endOf s p mid end
   pair-bell e = let (k, same) = letter-bell b e in pair-letter (Letter.bell k) same
 
-  pub pair-others : Other b → unchanged (length s) ≡ onPair (letterOf (getD s end 0)) s p mid end
-  pair-others other = by-others (λ (o : Option Letter). onPair o s p mid end) (unchanged (length s)) b other refl refl ∙ same-pair
+  pub pair-others : Other b → unchanged (length s) ≡ onPair (letterOf (getD s end 0)) endOf s p mid end
+  pair-others other = by-others (λ (o : Option Letter). onPair o endOf s p mid end) (unchanged (length s)) b other refl refl ∙ same-pair
 
-module _ (s : List ℕ) (p : ℕ) (b : ℕ) (q : b ≡ getD s (p + 1) 0) where
+module _ (endOf : ℕ → ℕ) (s : List ℕ) (p : ℕ) (b : ℕ) (q : b ≡ getD s (p + 1) 0) where
   -- the function's letter picks what the rule makes of the text
-  pub rewrite-letter : (l : Letter) → b ≡ byte l → onFunction (some l) s p ≡ rewriteOf s p
+  pub rewrite-letter : (l : Letter) → b ≡ byte l → onFunction (some l) endOf s p ≡ rewriteOf endOf s p
   unfolding rewriteOf
-  rewrite-letter l e = by-letter (λ (o : Option Letter). onFunction o s p) (getD s (p + 1) 0) l (sym q ∙ e)
+  rewrite-letter l e = by-letter (λ (o : Option Letter). onFunction o endOf s p) (getD s (p + 1) 0) l (sym q ∙ e)
 
-  pub rewrite-bell : isBell b ≡ true → frozen 12 p (p + 1) ≡ rewriteOf s p
+  pub rewrite-bell : isBell b ≡ true → frozen 12 p (p + 1) ≡ rewriteOf endOf s p
   rewrite-bell e = let (k, same) = letter-bell b e in rewrite-letter (Letter.bell k) same
 
-  pub rewrite-others : Other b → unchanged (length s) ≡ rewriteOf s p
+  pub rewrite-others : Other b → unchanged (length s) ≡ rewriteOf endOf s p
   unfolding rewriteOf
   rewrite-others other =
-      by-others (λ (o : Option Letter). onFunction o s p) (unchanged (length s)) b other refl refl
-      ∙ ap (λ (n : ℕ). onFunction (letterOf n) s p) q
+      by-others (λ (o : Option Letter). onFunction o endOf s p) (unchanged (length s)) b other refl refl
+      ∙ ap (λ (n : ℕ). onFunction (letterOf n) endOf s p) q
 
 -- past the end stands no letter
-pub rewrite-past : (s : List ℕ) (p : ℕ) → length s ≤ p → unchanged (length s) ≡ rewriteOf s p
+pub rewrite-past : (endOf : ℕ → ℕ) (s : List ℕ) (p : ℕ) → length s ≤ p → unchanged (length s) ≡ rewriteOf endOf s p
 unfolding rewriteOf letterOf
-rewrite-past s p h = ap (λ (n : ℕ). onFunction (letterOf n) s p) (sym (List·getD-eq-default s 0 {n = p + 1} (omega arith)))
+rewrite-past endOf s p h = ap (λ (n : ℕ). onFunction (letterOf n) endOf s p) (sym (List·getD-eq-default s 0 {n = p + 1} (omega arith)))
 
 -- the ends of the parts of a function, found one after the other
 pub pair-of :
-    (s : List ℕ) (p mid end : ℕ) → mid ≡ endAt s (p + 2) → end ≡ endAt s mid → onPair (letterOf (getD s end 0)) s p mid end ≡ pairOf s p
-pair-of s p mid end m e =
-    ap (λ (k : ℕ). onPair (letterOf (getD s k 0)) s p mid k) e
-    ∙ ap (λ (k : ℕ). onPair (letterOf (getD s (endAt s k) 0)) s p k (endAt s k)) m
+    (endOf : ℕ → ℕ) (s : List ℕ) (p mid end : ℕ) → mid ≡ endOf (p + 2) → end ≡ endOf mid →
+    onPair (letterOf (getD s end 0)) endOf s p mid end ≡ pairOf endOf s p
+pair-of endOf s p mid end m e =
+    ap (λ (k : ℕ). onPair (letterOf (getD s k 0)) endOf s p mid k) e
+    ∙ ap (λ (k : ℕ). onPair (letterOf (getD s (endOf k) 0)) endOf s p k (endOf k)) m
 
 pub closure-of :
-    (s : List ℕ) (p end third : ℕ) → end ≡ endAt s (p + 1) → third ≡ endAt s end →
-    entered (p + 1) (between end third) (between (p + 2) end) ≡ onFunction (some Letter.A) s p
-closure-of s p end third e t =
+    (endOf : ℕ → ℕ) (s : List ℕ) (p end third : ℕ) → end ≡ endOf (p + 1) → third ≡ endOf end →
+    entered (p + 1) (between end third) (between (p + 2) end) ≡ onFunction (some Letter.A) endOf s p
+closure-of endOf s p end third e t =
     ap (λ (k : ℕ). entered (p + 1) (between end k) (between (p + 2) end)) t
-    ∙ ap (λ (k : ℕ). entered (p + 1) (between k (endAt s k)) (between (p + 2) k)) e
+    ∙ ap (λ (k : ℕ). entered (p + 1) (between k (endOf k)) (between (p + 2) k)) e

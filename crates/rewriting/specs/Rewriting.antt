@@ -1,12 +1,11 @@
 -- The right side of each rule, as what is kept, written and left out of a text whose redex begins at p (REQUIREMENTS, Rules).
 -- In `. B u s a` and `. A s t a` the first part of the function begins at p + 2; `mid` and `end` are the indices behind its two parts.
--- Assumes nothing.
+-- `endOf` says where the part that begins at an index ends: `endAt s` of a text s, or what a table has. Assumes nothing.
 use Prim.Native.Nat.{ℕ, _+_}
 use mathlib.Core.List.{List}
 use mathlib.Core.Option.{Option, none, some}
 use lib.ListN.{length, getD}
 use Rattle.calculus.specs.Letter.{Letter, byte, letterOf}
-use Rattle.parts.specs.Skip.{endAt}
 use Rattle.rewriting.specs.declared.Part.{Part}
 use Rattle.rewriting.specs.declared.Rewrite.{Rewrite}
 
@@ -42,42 +41,42 @@ spread rule keep letter pair inner again =
     record { rule = rule; keep = keep; letter = letter; first = pair; second = inner; again = again; rest = inner .to }
 
 -- rules 6 to 11 and 13, by the first letter of the pair's argument; no rule where that is an application or no letter
-abbrev pub onPair : Option Letter → (s : List ℕ) (p mid end : ℕ) → Rewrite
-onPair none s p mid end = unchanged (length s)
-onPair (some Letter.J) s p mid end = picked 6 p (between (p + 2) mid) (end + 1)
-onPair (some Letter.R) s p mid end = picked 7 (p + 1) (between mid end) (end + 1)
-onPair (some Letter.H) s p mid end = spread 8 (p + 1) 0 (between p end) (between (end + 1) (endAt s (end + 1))) (between p end)
-onPair (some Letter.A) s p mid end = spread 9 p (byte Letter.A) (between p end) (between (end + 1) (endAt s (end + 1))) nothing
-onPair (some Letter.I) s p mid end = picked 10 p nothing end
-onPair (some Letter.B) s p mid end = spread 11 p (byte Letter.B) (between p end) (between (end + 1) (endAt s (end + 1))) (between p end)
-onPair (some Letter.stop) s p mid end = unchanged (length s)
-onPair (some (Letter.bell k)) s p mid end = picked 13 p nothing end
+abbrev pub onPair : Option Letter → (endOf : ℕ → ℕ) (s : List ℕ) (p mid end : ℕ) → Rewrite
+onPair none endOf s p mid end = unchanged (length s)
+onPair (some Letter.J) endOf s p mid end = picked 6 p (between (p + 2) mid) (end + 1)
+onPair (some Letter.R) endOf s p mid end = picked 7 (p + 1) (between mid end) (end + 1)
+onPair (some Letter.H) endOf s p mid end = spread 8 (p + 1) 0 (between p end) (between (end + 1) (endOf (end + 1))) (between p end)
+onPair (some Letter.A) endOf s p mid end = spread 9 p (byte Letter.A) (between p end) (between (end + 1) (endOf (end + 1))) nothing
+onPair (some Letter.I) endOf s p mid end = picked 10 p nothing end
+onPair (some Letter.B) endOf s p mid end = spread 11 p (byte Letter.B) (between p end) (between (end + 1) (endOf (end + 1))) (between p end)
+onPair (some Letter.stop) endOf s p mid end = unchanged (length s)
+onPair (some (Letter.bell k)) endOf s p mid end = picked 13 p nothing end
 
--- these rules, where the ends of the pair's parts are found in s
-abbrev pub pairOf : (s : List ℕ) (p : ℕ) → Rewrite
-pairOf s p =
-    let mid = endAt s (p + 2) in
-    let end = endAt s mid in
-    onPair (letterOf (getD s end 0)) s p mid end
+-- these rules, where endOf has the ends of the pair's parts
+abbrev pub pairOf : (endOf : ℕ → ℕ) (s : List ℕ) (p : ℕ) → Rewrite
+pairOf endOf s p =
+    let mid = endOf (p + 2) in
+    let end = endOf mid in
+    onPair (letterOf (getD s end 0)) endOf s p mid end
 
--- rule 4, where the ends of the closure and of its argument are found in s
-abbrev pub closureOf : (s : List ℕ) (p : ℕ) → Rewrite
-closureOf s p =
-    let end = endAt s (p + 1) in
-    entered (p + 1) (between end (endAt s end)) (between (p + 2) end)
+-- rule 4, where endOf has the ends of the closure and of its argument
+abbrev pub closureOf : (endOf : ℕ → ℕ) (p : ℕ) → Rewrite
+closureOf endOf p =
+    let end = endOf (p + 1) in
+    entered (p + 1) (between end (endOf end)) (between (p + 2) end)
 
 -- all rules, by the first letter of the function; no rule where that is an application or no letter
-abbrev pub onFunction : Option Letter → (s : List ℕ) (p : ℕ) → Rewrite
-onFunction none s p = unchanged (length s)
-onFunction (some Letter.J) s p = frozen 1 p (p + 1)
-onFunction (some Letter.R) s p = frozen 2 p (p + 1)
-onFunction (some Letter.H) s p = frozen 3 p (p + 1)
-onFunction (some Letter.A) s p = closureOf s p
-onFunction (some Letter.I) s p = picked 5 p nothing (p + 2)
-onFunction (some Letter.B) s p = pairOf s p
-onFunction (some Letter.stop) s p = unchanged (length s)
-onFunction (some (Letter.bell k)) s p = frozen 12 p (p + 1)
+abbrev pub onFunction : Option Letter → (endOf : ℕ → ℕ) (s : List ℕ) (p : ℕ) → Rewrite
+onFunction none endOf s p = unchanged (length s)
+onFunction (some Letter.J) endOf s p = frozen 1 p (p + 1)
+onFunction (some Letter.R) endOf s p = frozen 2 p (p + 1)
+onFunction (some Letter.H) endOf s p = frozen 3 p (p + 1)
+onFunction (some Letter.A) endOf s p = closureOf endOf p
+onFunction (some Letter.I) endOf s p = picked 5 p nothing (p + 2)
+onFunction (some Letter.B) endOf s p = pairOf endOf s p
+onFunction (some Letter.stop) endOf s p = unchanged (length s)
+onFunction (some (Letter.bell k)) endOf s p = frozen 12 p (p + 1)
 
 -- what the rule that applies at p makes of s; no rule past the end of s
-unfoldable pub rewriteOf : (s : List ℕ) (p : ℕ) → Rewrite
-rewriteOf s p = onFunction (letterOf (getD s (p + 1) 0)) s p
+unfoldable pub rewriteOf : (endOf : ℕ → ℕ) (s : List ℕ) (p : ℕ) → Rewrite
+rewriteOf endOf s p = onFunction (letterOf (getD s (p + 1) 0)) endOf s p

@@ -1,12 +1,13 @@
 // The rewriting: the right side of a rule in place of its left side, in the text of a term.
 use calculus::letters;
-use parts::part_end;
+use parts::end_of;
 use reading::is_bell;
 use slices::byte_at;
 ghost use mathlib.Core.Path.{_≡_};
-ghost use Prim.Native.Nat.{_+_, _-_, _≤_, _<_};
+ghost use Prim.Native.Nat.{_-_, _<_};
 ghost use lib.ListN.{length, getD};
 ghost use Rattle.calculus.specs.Letter.{letterOf};
+ghost use Rattle.parts.specs.Ends.{listed};
 ghost use Rattle.rewriting.specs.Rewriting as rewriting;
 
 // The bytes from index `from` up to, not including, `to`.
@@ -17,7 +18,7 @@ pub struct Part {
 
 // What a rule makes of a text: the bytes before `keep`, a letter, two parts of it, a part of it once more, and the bytes from `rest` on.
 pub struct Rewrite {
-    // The rule's number, 0 for no rule.
+    // The rule's number, `NO_RULE` for none.
     pub rule: u8,
     pub keep: usize,
     // `NO_LETTER` for none.
@@ -29,6 +30,9 @@ pub struct Rewrite {
     pub rest: usize,
 }
 
+// What stands in the place of a rule's number where no rule applies.
+pub const NO_RULE: u8 = 0;
+
 // What stands in the place of a letter where none is written.
 pub const NO_LETTER: u8 = 0;
 
@@ -36,11 +40,11 @@ pub const NO_LETTER: u8 = 0;
 const NOTHING: Part = Part { from: 0, to: 0 };
 
 // No rule: the whole text of that length is kept.
-fn unchanged(len: usize) -> Rewrite
+pub fn unchanged(len: usize) -> Rewrite
     ensures { λ r. ⌜ r ≡ rewriting.unchanged len ⌝ }
 {
     Rewrite {
-        rule: 0,
+        rule: NO_RULE,
         keep: len,
         letter: NO_LETTER,
         first: NOTHING,
@@ -111,9 +115,9 @@ fn spread(rule: u8, keep: usize, letter: u8, pair: Part, inner: Part, again: Par
 }
 
 // Rules 6 to 11 and 13: the parts of the pair at p + 1 end at `mid` and at `end`, where its argument begins.
-fn pair_at(s: &[u8], p: usize, mid: usize, end: usize) -> Rewrite
-    requires { ⌜ (p < length (now s)) × (end ≤ length (now s) + 1) ⌝ }
-    ensures { λ r. ⌜ r ≡ rewriting.onPair (letterOf (getD (now (s .entry)) end 0)) (now (s .entry)) p mid end ⌝ }
+fn pair_at(s: &[u8], ends: &[u16], p: usize, mid: usize, end: usize) -> Rewrite
+    requires { ⌜ (p < length (now s)) × (end < 65536) ⌝ }
+    ensures { λ r. ⌜ r ≡ rewriting.onPair (letterOf (getD (now (s .entry)) end 0)) (listed (now (ends .entry))) (now (s .entry)) p mid end ⌝ }
 {
     let head = byte_at(s, end);
     let inner = end + 1;
@@ -138,7 +142,7 @@ fn pair_at(s: &[u8], p: usize, mid: usize, end: usize) -> Rewrite
         return picked(13, p, NOTHING, end);
     }
     let pair = Part { from: p, to: end };
-    let third = part_end(s, inner);
+    let third = end_of(ends, inner);
     let first = Part {
         from: inner,
         to: third,
@@ -155,9 +159,9 @@ fn pair_at(s: &[u8], p: usize, mid: usize, end: usize) -> Rewrite
     unchanged(s.len())
 }
 
-// What the rule that applies at `p` makes of the text; no rule where none applies there.
-pub fn rewrite_at(s: &[u8], p: usize) -> Rewrite
-    ensures { λ r. ⌜ r ≡ rewriting.rewriteOf (now (s .entry)) p ⌝ }
+// What the rule that applies at `p` makes of the text, whose ends stand in `ends`; no rule where none applies there.
+pub fn rewrite_at(s: &[u8], ends: &[u16], p: usize) -> Rewrite
+    ensures { λ r. ⌜ r ≡ rewriting.rewriteOf (listed (now (ends .entry))) (now (s .entry)) p ⌝ }
 {
     if s.len() <= p {
         return unchanged(s.len());
@@ -177,10 +181,10 @@ pub fn rewrite_at(s: &[u8], p: usize) -> Rewrite
         return picked(5, p, NOTHING, p + 2);
     }
     if head == letters::A {
-        let end = part_end(s, function);
+        let end = end_of(ends, function);
         let argument = Part {
             from: end,
-            to: part_end(s, end),
+            to: end_of(ends, end),
         };
         return entered(
             function,
@@ -192,9 +196,9 @@ pub fn rewrite_at(s: &[u8], p: usize) -> Rewrite
         );
     }
     if head == letters::B {
-        let mid = part_end(s, p + 2);
-        let end = part_end(s, mid);
-        return pair_at(s, p, mid, end);
+        let mid = end_of(ends, p + 2);
+        let end = end_of(ends, mid);
+        return pair_at(s, ends, p, mid, end);
     }
     if is_bell(head) {
         return frozen(12, p, function);

@@ -1,87 +1,31 @@
--- From what was found, written and cleared to the reply and the areas: each way out of `advance` and of `step` as one law.
+-- From the rewrite, what was written and what was cleared to the reply and the areas: each way out of `advance` and of `step` as one law.
 -- Assumes nothing.
 use Prim.Native.Nat.{ℕ, _+_, _-_, _≤_, _<_}
 use native.Mathlib.Omega.{arith}
-use mathlib.Core.Path.{_≡_, refl, sym, _∙_, ap, ap₂, subst}
+use mathlib.Core.Path.{_≡_, refl, sym, _∙_, ap, ap₂}
 use mathlib.Core.Bool.{Bool}
 use mathlib.Core.List.{List, _++_}
 use borrow.Author.Tests.{lt-ltb, le-ltb, le-leb, lt-leb}
 use lib.Dec.{leb}
-use lib.ListN.{length, take, replicate, length-append, length-take}
+use lib.ListN.{length, take, replicate, length-take}
 use lib.Seq.{length-take-le}
-use Rattle.calculus.specs.Letter.{Letter, byte}
 use Rattle.calculus.specs.Limits.{areaLimit}
 use Rattle.calculus.specs.Term.{Term, text, size}
 use Rattle.calculus.specs.Order.{Next, next}
 use Rattle.calculus.specs.Parse.{termOf}
 use Rattle.calculus.proofs.PrefixCode.{length-text, termOf-text}
-use Rattle.slices.specs.Find.{indexOf}
 use Rattle.reading.specs.Reply.{Reply}
 use Rattle.reading.specs.Reading.{readingOf, orRefusal, termRead}
 use Rattle.reading.proofs.Whole.{whole-term, refused-none}
-use Rattle.redexes.specs.Moves.{Move, Leads}
-use Rattle.redexes.specs.Spot.{Spot, Found}
-use Rattle.redexes.proofs.Moves.{spot-laid, move-stays}
-use Rattle.redexes.proofs.Found.{spot-within, search-found}
 use Rattle.rewriting.specs.declared.Rewrite.{Rewrite}
-use Rattle.rewriting.specs.Rewriting.{rewriteOf}
 use Rattle.rewriting.specs.Text.{rewritten}
-use Rattle.rewriting.proofs.Rules.{fires}
+use Rattle.reducing.specs.Makes.{Makes, NextBy}
 use Rattle.writing.specs.Back.{Back}
 use Rattle.stepping.specs.Areas.{holding, cleared}
 use Rattle.stepping.specs.Held.{Holds}
 use Rattle.stepping.specs.Stepping.{Stepped, After, stepTo, stepNext, stepAdmitted, steppingOf}
 
--- ---- what is found
-
--- the rewrite w makes the next step of t
-pub record Makes (t : Term) (w : Rewrite) : Type 0 where
-  pub reduct : Term
-  pub step : next t ≡ Next.step (w .rule) reduct
-  pub spelt : rewritten w (text t) ≡ text reduct
-  pub grows : size reduct ≤ size t + (w .again .to - w .again .from)
-  pub exact : 0 < w .again .to - w .again .from → size reduct ≡ size t + (w .again .to - w .again .from)
-
--- nothing is found at the end of the term only where nothing comes next
-found-end : {t : Term} {r : ℕ} → Found t r → r ≡ size t → next t ≡ Next.stop
-found-end (Found.nothing e) q = e
-found-end (Found.redex spot move) q = absurd (omega (arith, spot-within spot))
-
--- what is found elsewhere is the redex
-found-redex : {t : Term} {r : ℕ} → Found t r → ¬ (r ≡ size t) → Spot t r × Move (text t) r r
-found-redex (Found.nothing e) n = absurd (n refl)
-found-redex (Found.redex spot move) n = (spot, move)
-
--- the sizes of a front, a term and a back
-length-three : (x : List ℕ) (t : Term) (y : List ℕ) → length (x ++ (text t ++ y)) ≡ length x + size t + length y
-length-three x t y = omega (arith, length-append x (text t ++ y), length-append (text t) y, length-text t)
-
--- and its rewrite makes the next step
-found-makes : {t : Term} {r : ℕ} → Found t r → ¬ (r ≡ size t) → Makes t (rewriteOf (text t) r)
-found-makes {t} {r} found n =
-    let (spot, move) = found-redex found n in
-    let stays = move-stays move refl in
-    let redex = Term.app (spot .function) (spot .argument) in
-    let long : size t ≡ r + size redex + length (spot .back) =
-    omega (arith, length-text t, ap length (spot .spelt), length-three (spot .front) redex (spot .back), spot .place) in
-    let fired = fires (spot .function) (spot .argument) (spot-laid spot) (stays .0) (stays .1) in
-    let whole = spot .steps (rewriteOf (text t) r .rule) (fired .value) (fired .step) in
-    let sum : size (whole .reduct) ≡ r + size (fired .value) + length (spot .back) =
-    omega
-    (arith, length-text (whole .reduct), ap length (whole .spelt), length-three (spot .front) (fired .value) (spot .back), spot .place) in
-    record {
-      reduct = whole .reduct;
-      step = whole .step;
-      spelt = fired .spelt ∙ sym (whole .spelt);
-      grows = omega (arith, fired .grows);
-      exact = λ k. omega (arith, fired .exact k);
-    }
-
 -- ---- the ways out of `advance`
-
--- the search in the first len bytes ends at r
-abbrev pub EndsAt : (area : List ℕ) (len r : ℕ) → Type 0
-EndsAt area len r = Leads (take len area) (indexOf (byte Letter.stop) (take len area)) r
 
 module _ {area : List ℕ} {len : ℕ} {t : Term} (h : Holds area len t) where
   held-size : len ≡ size t
@@ -91,26 +35,22 @@ module _ {area : List ℕ} {len : ℕ} {t : Term} (h : Holds area len t) where
   holding-held : take len area ++ replicate (length area - len) 0 ≡ holding t area
   holding-held = ap₂ (λ (l : List ℕ) (n : ℕ). l ++ replicate (length area - n) 0) (h .written) held-size
 
-  -- what the search ends at in the text of t
-  held-found : {r : ℕ} → EndsAt area len r → Found t r
-  held-found {r} led = search-found t (subst (λ (l : List ℕ). Leads l (indexOf (byte Letter.stop) l) r) (h .written) led)
-
-  -- what the rule that applies there makes of it
-  pub held-makes : {r : ℕ} (w : Rewrite) → EndsAt area len r → ¬ (r ≡ len) → w ≡ rewriteOf (take len area) r → Makes t w
-  held-makes {r} w led n e =
-      subst (Makes t) (sym (e ∙ ap (λ (l : List ℕ). rewriteOf l r) (h .written)))
-      (found-makes (held-found led) (λ q. n (q ∙ sym held-size)))
+  -- what is said of any text within the limit holds of the text of t
+  pub held-next :
+      {w : Rewrite} → length area ≤ areaLimit →
+      ((u : Term) → take len area ≡ text u → length (take len area) ≤ areaLimit → NextBy u w) → NextBy t w
+  held-next short says = says t (h .written) (omega (arith, length-take len area, h .within))
 
   module _ (work : List ℕ) where
     -- where nothing comes next
     pub after-normal :
-        {r : ℕ} {area′ work′ : List ℕ} → EndsAt area len r → r ≡ len →
+        {area′ work′ : List ℕ} → next t ≡ Next.stop →
         area′ ≡ take len area ++ replicate (length area - len) 0 → work′ ≡ cleared work →
         After.after (Reply.answered (Stepped.normal len)) area′ work′ ≡ stepNext t (next t) area work
-    after-normal led e a w =
+    after-normal e a w =
         ap₂ (λ (x y : List ℕ). After.after (Reply.answered (Stepped.normal len)) x y) (a ∙ holding-held) w
         ∙ ap (λ (n : ℕ). After.after (Reply.answered (Stepped.normal n)) (holding t area) (cleared work)) held-size
-        ∙ sym (ap (λ (x : Next). stepNext t x area work) (found-end (held-found led) (e ∙ held-size)))
+        ∙ sym (ap (λ (x : Next). stepNext t x area work) e)
 
     module _ {w : Rewrite} (makes : Makes t w) where
       -- the step that comes next, by whether its term fits

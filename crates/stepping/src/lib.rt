@@ -1,13 +1,14 @@
 // Stepping: one step of the term in a lent area.
 use filling::clear;
 use reading::Reading;
-use redexes::redex;
+use reducing::next_rewrite;
+use rewriting::NO_RULE;
 use rewriting::growth;
-use rewriting::rewrite_at;
 use writing::write_back;
 ghost use mathlib.Core.Path.{_≡_};
 ghost use Prim.Native.Nat.{_≤_};
 ghost use lib.ListN.{length};
+ghost use Rattle.calculus.specs.Limits.{areaLimit};
 ghost use Rattle.calculus.specs.Term.{Term};
 ghost use Rattle.calculus.specs.Order.{next};
 ghost use Rattle.reading.specs.Reply.{numberIn, placeIn};
@@ -58,16 +59,15 @@ pub fn place(answer: Stepping) -> usize
 
 // One step of the term in the first `len` bytes, or what keeps it from one.
 fn advance(area: &mut [u8], len: usize, work: &mut [u8]) -> Stepping
-    requires { ⌜ (len ≤ length (now area)) × (length (now area) ≤ length (now work)) ⌝ }
+    requires { ⌜ (len ≤ length (now area)) × (length (now area) ≤ length (now work)) × (length (now area) ≤ areaLimit) ⌝ }
     ensures { λ r. ⌜ ((t : Term) → Holds (now (area .entry)) len t
         → After.after (answerOf r) (now (area .exit)) (now (work .exit)) ≡ stepNext t (next t) (now (area .entry)) (now (work .entry))) ⌝ }
 {
-    let p = redex(&area[..len]);
-    if p == len {
+    let w = next_rewrite(&area[..len]);
+    if w.rule == NO_RULE {
         clear(area, len, work);
         return Stepping::Normal(len);
     }
-    let w = rewrite_at(&area[..len], p);
     if area.len() - len < growth(w) {
         clear(area, len, work);
         return Stepping::NoRoom(len);

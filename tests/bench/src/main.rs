@@ -3,7 +3,8 @@
 //!   bench [PICTURE.svg]    every table, and a chart where a path is given
 //!   bench --dear           the calls that cost most, among them a run of 1,000,000 steps: some minutes
 //!
-//! Both are built for release. Each call starts from the term with zeros behind it and a zeroed work area.
+//! Both are built for release. Each call starts from the term with zeros behind it and a zeroed work area. Built with
+//! CONTROLLER_DIR set, it times the archive in that folder.
 
 mod chart;
 mod checking;
@@ -11,6 +12,7 @@ mod counting;
 mod dear;
 mod growth;
 mod reducing;
+mod small;
 mod stack;
 mod table;
 mod terms;
@@ -25,6 +27,7 @@ fn everything(picture: Option<String>) {
     let tables = [
         reducing::table(&programs, &nested, &bells),
         growth::table(&nested),
+        small::table(),
         counting::table(),
         checking::table(),
         stack::table(),
@@ -40,6 +43,9 @@ fn everything(picture: Option<String>) {
 }
 
 fn run() {
+    if let Some(folder) = option_env!("CONTROLLER_DIR") {
+        println!("the engine is the archive in {folder}");
+    }
     println!("{}\n", timing::METHOD);
     match std::env::args().nth(1) {
         Some(word) if word == "--dear" => println!("{}", dear::table(dear::MOST_STEPS).text()),

@@ -27,10 +27,16 @@ pub struct Timed {
 /// A term area and a work area.
 pub type Areas = (Vec<u8>, Vec<u8>);
 
+/// Areas of the largest size.
 pub fn areas(text: &[u8]) -> Areas {
+    areas_of(text, AREA)
+}
+
+/// Areas of this size.
+pub fn areas_of(text: &[u8], size: usize) -> Areas {
     let mut area = text.to_vec();
-    area.resize(AREA, 0);
-    (area, vec![0; AREA])
+    area.resize(size, 0);
+    (area, vec![0; size])
 }
 
 fn run_of<R: Reducer>(case: &Case) -> finishing::Run {
@@ -54,11 +60,12 @@ fn engine_finish(case: &Case, steps: u64) -> f64 {
     shortest(|| areas(&case.text), call)
 }
 
-fn engine_step(case: &Case) -> f64 {
+/// One call of stepping in an area of this size.
+pub fn engine_step(text: &[u8], area: usize) -> f64 {
     let call = |areas: &mut Areas| {
-        Linked.step(&mut areas.0, case.text.len(), &mut areas.1);
+        Linked.step(&mut areas.0, text.len(), &mut areas.1);
     };
-    shortest(|| areas(&case.text), call)
+    shortest(|| areas_of(text, area), call)
 }
 
 fn arena_step(case: &Case) -> f64 {
@@ -77,7 +84,7 @@ pub fn time(case: &Case) -> Timed {
         engine: each(engine_finish(case, steps)),
         tree: each(second_finish::<Plain>(case)),
         arena: each(second_finish::<Machine>(case)),
-        engine_step: engine_step(case),
+        engine_step: engine_step(&case.text, AREA),
         arena_step: arena_step(case),
     }
 }

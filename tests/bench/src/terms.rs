@@ -75,10 +75,10 @@ pub fn bells() -> Vec<Case> {
     ]
 }
 
-/// A shape's name, and its text of so many letters and one more.
-type Shape = (&'static str, fn(usize) -> Vec<u8>);
+/// A shape's name, and its text by the number of letters.
+pub type Shape = (&'static str, fn(usize) -> Vec<u8>);
 
-/// Terms nested to the left or to the right.
+/// Terms nested to the left or to the right, of so many letters and one more.
 pub const NESTED: [Shape; 6] = [
     ("left, .^k I^(k+1)", |letters| joined(&[&repeated(".", letters / 2), &repeated("I", letters / 2 + 1)])),
     ("left, .^k J^(k+1)", |letters| joined(&[&repeated(".", letters / 2), &repeated("J", letters / 2 + 1)])),
@@ -87,6 +87,26 @@ pub const NESTED: [Shape; 6] = [
     ("B^k I (.IJ)^k", |letters| joined(&[&repeated("B", letters / 4), b"I", &repeated(".IJ", letters / 4)])),
     ("(.BII)^k J", |letters| joined(&[&repeated(".BII", letters / 4), b"J"])),
 ];
+
+/// A redex at the end of an index, of so many letters and one more: its whole run is one step.
+pub const ONE_STEP: Shape = ("R^k .IJ", |letters| behind_an_index(letters + 1));
+
+fn behind_an_index(letters: usize) -> Vec<u8> {
+    joined(&[&repeated("R", letters - 3), b".IJ"])
+}
+
+/// Terms of so many letters: a redex behind an index, under full stops, and with an index in its pair.
+pub const SMALL_SHAPES: [Shape; 3] = [
+    ("R^k .IJ", behind_an_index),
+    ("left, .^k J^k and J or RJ", |letters| {
+        let stops = (letters - 1) / 2;
+        joined(&[&repeated(".", stops), &repeated("J", stops), &index((letters - 1) % 2)])
+    }),
+    (".B R^k J IRJ", |letters| joined(&[b".B", &index(letters - 6), b"IRJ"])),
+];
+
+/// The sizes of these terms; the engine's table of ends is longer from 33, from 257 and from 2,049 letters on.
+pub const SMALL_SIZES: [usize; 10] = [6, 11, 32, 33, 100, 256, 257, 1_000, 2_048, 2_049];
 
 /// The sizes of the nested terms: all of them in the chart, the last two in the tables.
 pub const SIZES: [usize; 5] = [64, 256, 1_000, SMALL, LARGE];

@@ -21,11 +21,34 @@ pub fn on_advised_stack(body: impl FnOnce() -> Outcome + Send) -> Outcome {
     })
 }
 
-/// Deep terms, most of them of nearly 16,384 letters: (name, text).
-pub fn deep_terms() -> Vec<(&'static str, Vec<u8>)> {
-    let nested = |start: &str, times: usize, end: &str, ends: usize| {
-        joined(&[&repeated(start, times), &repeated(end, ends)])
-    };
+/// A text's name and the text.
+type Named = (&'static str, Vec<u8>);
+
+/// One letter so many times, then another so many times.
+fn nested(start: &str, times: usize, end: &str, ends: usize) -> Vec<u8> {
+    joined(&[&repeated(start, times), &repeated(end, ends)])
+}
+
+/// Terms that are deep under their first full stop, each of 16,000 letters or more.
+fn deep_applications() -> Vec<Named> {
+    vec![
+        (".I R^16381 J", joined(&[b".I", &index(16_381)])),
+        (". R^16381 J J", joined(&[b".", &index(16_381), b"J"])),
+        (".I H to the left", joined(&[b".I", &nested("H", 8_190, "J", 8_191)])),
+        (".I H to the right", joined(&[b".I", &repeated("HJ", 8_190), b"J"])),
+        (". H to the left, J", joined(&[b".", &nested("H", 8_190, "J", 8_191), b"J"])),
+        (". B to the left, J", joined(&[b".", &nested("B", 8_190, "I", 8_191), b"J"])),
+        (". B to the right, RJ", joined(&[b".", &repeated("BI", 8_190), b"IRJ"])),
+        (".BII, B to the left", joined(&[b".BII", &nested("B", 8_000, "J", 8_001)])),
+        (". A to the left, J", joined(&[b".", &nested("A", 8_190, "I", 8_191), b"J"])),
+        (". to the left, BII and J", joined(&[&repeated(".", 8_190), b"BII", &repeated("J", 8_190)])),
+        (". to the left, BII", joined(&[&repeated(".", 4_000), &repeated("BII", 4_001)])),
+        (".B R^8189 J, B to the right, J", joined(&[b".B", &index(8_189), &repeated("BI", 4_095), b"IJ"])),
+    ]
+}
+
+/// Terms that are deep in other places, most of them of nearly 16,384 letters.
+fn nested_terms() -> Vec<Named> {
     vec![
         ("R^16383 J", index(16_383)),
         ("R^16381 .IJ", joined(&[&repeated("R", 16_381), b".IJ"])),
@@ -48,8 +71,13 @@ pub fn deep_terms() -> Vec<(&'static str, Vec<u8>)> {
     ]
 }
 
+/// Deep terms without bells.
+pub fn deep_terms() -> Vec<Named> {
+    [nested_terms(), deep_applications()].concat()
+}
+
 /// Deep terms with bells.
-pub fn deep_bells() -> Vec<(&'static str, Vec<u8>)> {
+pub fn deep_bells() -> Vec<Named> {
     vec![
         ("R^16383 0", joined(&[&repeated("R", 16_383), b"0"])),
         (". to the left, 1", joined(&[&repeated(".", 8_191), &repeated("1", 8_192)])),
@@ -68,18 +96,11 @@ pub fn deep_bells() -> Vec<(&'static str, Vec<u8>)> {
 }
 
 /// Every deep term.
-fn all_deep_terms() -> Vec<(&'static str, Vec<u8>)> {
+fn all_deep_terms() -> Vec<Named> {
     [deep_terms(), deep_bells()].concat()
 }
 
-type Predict = fn(&Call, Option<u64>) -> Expected;
 type PredictCounted = fn(&Counted) -> AfterCounted;
-
-fn call(text: &[u8], area: usize) -> Call {
-    let mut bytes = text.to_vec();
-    bytes.resize(area, b'#');
-    Call { area: bytes, term: text.len(), work: vec![b'w'; area] }
-}
 
 fn one_step(subject: impl Controller + Sync, text: &[u8], area: usize) -> Outcome {
     let call = call(text, area);

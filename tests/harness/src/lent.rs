@@ -64,12 +64,22 @@ pub struct Call {
     pub work: Vec<u8>,
 }
 
+/// A call on a term in an area of this size, with `#` behind the term and `w` in the work area.
+pub fn call(text: &[u8], area: usize) -> Call {
+    let mut bytes = text.to_vec();
+    bytes.resize(area, b'#');
+    Call { area: bytes, term: text.len(), work: vec![b'w'; area] }
+}
+
 /// What a call must answer and leave.
 pub struct Expected {
     pub reply: u64,
     pub area: Vec<u8>,
     pub work: Vec<u8>,
 }
+
+/// What a reducer predicts of stepping (no fuel) or finishing.
+pub type Predict = fn(&Call, Option<u64>) -> Expected;
 
 fn predict<R: Reducer>(call: &Call, fuel: Option<u64>) -> Expected {
     let (mut area, mut work) = (call.area.clone(), call.work.clone());

@@ -8,8 +8,8 @@ use crate::subject::Second;
 use crate::suite::{equal, equal_bytes, shown, Outcome, Suite};
 use crate::terms::{all_of_size, random_of_size, ALL_BELLS, BELLS, NO_BELLS, TWO_BELLS};
 use crate::{
-    check_tests, compare_tests, count_tests, deep, finish_tests, huge, match_tests, program_tests, read_tests,
-    small_tests, step_tests,
+    check_tests, compare_tests, count_tests, deep, end_tests, finish_tests, huge, match_tests, program_tests,
+    read_tests, small_tests, step_tests,
 };
 use second::checking::check;
 use second::finishing::{run, Outcome as End};
@@ -192,6 +192,7 @@ fn made(suite: &mut Suite) {
 fn two_reducers(suite: &mut Suite) {
     let fast = Second::<Machine>::new();
     step_tests::predicted(suite, "fast", fast);
+    end_tests::predicted(suite, "fast", fast, 1, predict_plain);
     finish_tests::predicted(suite, "fast", fast);
     count_tests::predicted(suite, "fast", fast);
     small_tests::predicted(suite, "fast", fast);

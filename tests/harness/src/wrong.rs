@@ -2,6 +2,7 @@
 
 use crate::reply::*;
 use crate::subject::Controller;
+use crate::wrong_ends::{self, Damage};
 use second::comparing::Lent;
 use std::sync::atomic::{AtomicU64, Ordering};
 
@@ -23,6 +24,8 @@ pub struct Bug {
     pub name: &'static str,
     /// What becomes of a reply.
     reply: fn(u64) -> u64,
+    /// What becomes of the ends of parts, where stepping looks them up in a table.
+    ends: Option<Damage>,
     /// What becomes of a lent area and the work area, after a call with this reply.
     bytes: fn(u64, &mut [u8], &mut [u8]),
     /// What becomes of the reply to bytes that are read or checked.
@@ -34,13 +37,24 @@ pub struct Bug {
 }
 
 /// No bug.
-const NONE: Bug =
-    Bug { name: "", reply: |reply| reply, bytes: kept, read: |_, reply| reply, count, stored: |_, _, _| () };
+const NONE: Bug = Bug {
+    name: "",
+    reply: |reply| reply,
+    ends: None,
+    bytes: kept,
+    read: |_, reply| reply,
+    count,
+    stored: |_, _, _| (),
+};
 
 fn kept(_: u64, _: &mut [u8], _: &mut [u8]) {}
 
 const fn replies(name: &'static str, reply: fn(u64) -> u64) -> Bug {
     Bug { name, reply, ..NONE }
+}
+
+const fn looks_up(name: &'static str, ends: Damage) -> Bug {
+    Bug { name, ends: Some(ends), ..NONE }
 }
 
 const fn leaves(name: &'static str, bytes: fn(u64, &mut [u8], &mut [u8])) -> Bug {
@@ -212,7 +226,7 @@ fn counts_left_without_room(reply: u64, before: &[u8], counts: &mut [u8]) {
     }
 }
 
-static BUGS: [Bug; 37] = [
+static BUGS: [Bug; 40] = [
     replies("5 one place too far", |reply| changed(reply, &[5], |reply| reply + ONE)),
     replies("places of 24 bits", |reply| changed(reply, &[5, 6, 7], |reply| reply & 0xffff_ffff)),
     replies("a size read of 24 bits", |reply| changed(reply, &[WHOLE], |reply| reply & 0xffff_ffff)),
@@ -239,6 +253,9 @@ static BUGS: [Bug; 37] = [
     replies("one line too few counted", |reply| changed(reply, &[ACCEPTED], |reply| reply - ONE)),
     replies("every claim matches", |reply| exchanged(reply, NO_MATCH, MATCH)),
     replies("every thousandth reply is that of the call before", kept_from_before),
+    looks_up("ends past the middle of the text short by one", wrong_ends::short_past_the_middle),
+    looks_up("a table of 16,383 ends", wrong_ends::last_entry_left_out),
+    looks_up("an end of 16,384 kept as 0", wrong_ends::largest_end_as_0),
     leaves("the last byte of the area left", last_byte_left),
     leaves("the work area cleared as far as the term area", long_work_left),
     leaves("a byte written behind the area", byte_behind_the_area),
@@ -278,7 +295,10 @@ impl<C: Controller> Controller for Wrong<C> {
     }
 
     fn step(&self, area: &mut [u8], term: usize, work: &mut [u8]) -> u64 {
-        let reply = self.subject.step(area, term, work);
+        let reply = match self.bug.ends {
+            Some(damage) => wrong_ends::step(&self.subject, area, term, work, damage),
+            None => self.subject.step(area, term, work),
+        };
         (self.bug.bytes)(reply, area, work);
         (self.bug.reply)(reply)
     }

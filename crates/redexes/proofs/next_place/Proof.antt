@@ -19,38 +19,36 @@ add-result c = search needs
 returns : tie.Need-returns
 returns c = Move.function (sym (c .before .byte-at .ensures) ∙ c .if1 .taken)
 
-add-part-end : tie.Need-add-part-end
-add-part-end c = search needs
+add-end-of : tie.Need-add-end-of
+add-end-of c = search needs
 
-part-end-requires : tie.Need-part-end-requires
-part-end-requires c κs = search needs
+end-of-requires : tie.Need-end-of-requires
+end-of-requires c κs = search needs
 
 byte-at-requires-2 : tie.Need-byte-at-requires-2
 byte-at-requires-2 c κs = search needs
 
 returns-2 : tie.Need-returns-2
 returns-2 c =
-    let at-part-end = c .before .before in
-    let at-if2 = at-part-end .before in
-    let at-if2 = at-if2 in
+    let at-if2 = c .before .before .before in
     let at-byte-at = at-if2 .before .before in
-    Move.argument (at-part-end .part-end .ensures) (sym (at-byte-at .byte-at .ensures) ∙ at-if2 .if2 .taken)
+    Move.argument (c .before .before .end-of .ensures .0) (sym (at-byte-at .byte-at .ensures) ∙ at-if2 .if2 .taken)
     (sym (c .before .byte-at2 .ensures) ∙ c .if3 .taken)
 
 returns-3 : tie.Need-returns-3
 returns-3 c =
-    let at-part-end = c .before .before in
-    let at-if1 = at-part-end .before .before in
+    let at-end-of = c .before .before in
+    let at-if1 = at-end-of .before .before in
     let at-byte-at = at-if1 .before in
-    let start = at-byte-at .before .before in
+    let start = at-byte-at .before .before .before in
     let a = start .args in
     Move.here (λ e. at-if1 .if1 .left (at-byte-at .byte-at .ensures ∙ e))
-    (λ b e. c .if3 .left (c .before .byte-at2 .ensures ∙ ap (λ (n : ℕ). getD (a .s .now) n 0) (at-part-end .part-end .ensures) ∙ e))
+    (λ b e. c .if3 .left (c .before .byte-at2 .ensures ∙ ap (λ (n : ℕ). getD (a .s .now) n 0) (at-end-of .end-of .ensures .0) ∙ e))
 
 returns-4 : tie.Need-returns-4
 returns-4 c =
-    let at-byte-at = c .before .before in
-    Move.here (λ e. c .before .if1 .left (at-byte-at .byte-at .ensures ∙ e)) (λ b. absurd (c .if2 .left (at-byte-at .byte-at .ensures ∙ b)))
+    let head = c .before .before .byte-at .ensures in
+    Move.here (λ e. c .before .if1 .left (head ∙ e)) (λ b. absurd (c .if2 .left (head ∙ b)))
 
 pub next-place-spec : {M : Type 1} → statement M
 next-place-spec =
@@ -60,8 +58,8 @@ next-place-spec =
     byte-at-requires
     add-result
     returns
-    add-part-end
-    part-end-requires
+    add-end-of
+    end-of-requires
     byte-at-requires-2
     returns-2
     returns-3

@@ -2,6 +2,7 @@
 use mathlib.Core.Path.{sym, _∙_, ap}
 use Prim.Native.Nat.{ℕ, _+_}
 use Rattle.calculus.specs.Letter.{Letter, byte}
+use Rattle.parts.specs.Ends.{listed}
 use Rattle.rewriting.specs.Rewriting.{between, nothing, spread}
 use Rattle.rewriting.proofs.Tested.{Other, pair-letter, pair-bell, pair-others}
 use borrow.Author.Needs.{needs}
@@ -14,8 +15,8 @@ byte-at-requires c κs = search needs
 add-inner : tie.Need-add-inner
 add-inner c = search needs
 
-add-t11 : tie.Need-add-t11
-add-t11 c = search needs
+add-t12 : tie.Need-add-t12
+add-t12 c = search needs
 
 picked-requires : tie.Need-picked-requires
 picked-requires c κs = search needs
@@ -23,10 +24,11 @@ picked-requires c κs = search needs
 returns : tie.Need-returns
 returns c =
     let at-byte-at = c .before .before in
-    let start = at-byte-at .before .before in
+    let start = at-byte-at .before .before .before in
     let a = start .args in
+    let endOf = listed (a .ends .now) in
     c .picked .ensures
-    ∙ pair-letter (a .s .now) (a .p) (a .mid) (a .end) (at-byte-at .byte-at .result) (at-byte-at .byte-at .ensures) Letter.J
+    ∙ pair-letter endOf (a .s .now) (a .p) (a .mid) (a .end) (at-byte-at .byte-at .result) (at-byte-at .byte-at .ensures) Letter.J
     (c .before .if1 .taken)
 
 add-picked : tie.Need-add-picked
@@ -38,10 +40,11 @@ picked-requires-2 c κs = search needs
 returns-2 : tie.Need-returns-2
 returns-2 c =
     let at-byte-at = c .before .before .before in
-    let start = at-byte-at .before .before in
+    let start = at-byte-at .before .before .before in
     let a = start .args in
+    let endOf = listed (a .ends .now) in
     c .picked2 .ensures
-    ∙ pair-letter (a .s .now) (a .p) (a .mid) (a .end) (at-byte-at .byte-at .result) (at-byte-at .byte-at .ensures) Letter.R
+    ∙ pair-letter endOf (a .s .now) (a .p) (a .mid) (a .end) (at-byte-at .byte-at .result) (at-byte-at .byte-at .ensures) Letter.R
     (c .before .if2 .taken)
 
 picked-requires-3 : tie.Need-picked-requires-3
@@ -50,10 +53,11 @@ picked-requires-3 c κs = search needs
 returns-3 : tie.Need-returns-3
 returns-3 c =
     let at-byte-at = c .before .before .before .before in
-    let start = at-byte-at .before .before in
+    let start = at-byte-at .before .before .before in
     let a = start .args in
+    let endOf = listed (a .ends .now) in
     c .picked3 .ensures
-    ∙ pair-letter (a .s .now) (a .p) (a .mid) (a .end) (at-byte-at .byte-at .result) (at-byte-at .byte-at .ensures) Letter.I
+    ∙ pair-letter endOf (a .s .now) (a .p) (a .mid) (a .end) (at-byte-at .byte-at .result) (at-byte-at .byte-at .ensures) Letter.I
     (c .before .if3 .taken)
 
 is-bell-requires : tie.Need-is-bell-requires
@@ -66,14 +70,15 @@ returns-4 : tie.Need-returns-4
 returns-4 c =
     let at-is-bell = c .before .before in
     let at-byte-at = at-is-bell .before .before .before .before in
-    let start = at-byte-at .before .before in
+    let start = at-byte-at .before .before .before in
     let a = start .args in
+    let endOf = listed (a .ends .now) in
     c .picked4 .ensures
-    ∙ pair-bell (a .s .now) (a .p) (a .mid) (a .end) (at-byte-at .byte-at .result) (at-byte-at .byte-at .ensures)
+    ∙ pair-bell endOf (a .s .now) (a .p) (a .mid) (a .end) (at-byte-at .byte-at .result) (at-byte-at .byte-at .ensures)
     (sym (at-is-bell .is-bell .ensures) ∙ c .before .if4 .taken)
 
-part-end-requires : tie.Need-part-end-requires
-part-end-requires c κs = search needs
+end-of-requires : tie.Need-end-of-requires
+end-of-requires c κs = search needs
 
 add-spread : tie.Need-add-spread
 add-spread c = search needs
@@ -83,14 +88,15 @@ spread-requires c κs = search needs
 
 returns-5 : tie.Need-returns-5
 returns-5 c =
-    let at-part-end = c .before .before in
-    let at-byte-at = at-part-end .before .before .before .before .before .before in
-    let start = at-byte-at .before .before in
+    let at-end-of = c .before .before in
+    let at-byte-at = at-end-of .before .before .before .before .before .before in
+    let start = at-byte-at .before .before .before in
     let a = start .args in
+    let endOf = listed (a .ends .now) in
     let pair = between (a .p) (a .end) in
     c .spread .ensures
-    ∙ ap (λ (k : ℕ). spread 8 (a .p + 1) 0 pair (between (a .end + 1) k) pair) (at-part-end .part-end .ensures)
-    ∙ pair-letter (a .s .now) (a .p) (a .mid) (a .end) (at-byte-at .byte-at .result) (at-byte-at .byte-at .ensures) Letter.H
+    ∙ ap (λ (k : ℕ). spread 8 (a .p + 1) 0 pair (between (a .end + 1) k) pair) (at-end-of .end-of .ensures .0)
+    ∙ pair-letter endOf (a .s .now) (a .p) (a .mid) (a .end) (at-byte-at .byte-at .result) (at-byte-at .byte-at .ensures) Letter.H
     (c .before .if5 .taken)
 
 spread-requires-2 : tie.Need-spread-requires-2
@@ -98,14 +104,15 @@ spread-requires-2 c κs = search needs
 
 returns-6 : tie.Need-returns-6
 returns-6 c =
-    let at-part-end = c .before .before .before in
-    let at-byte-at = at-part-end .before .before .before .before .before .before in
-    let start = at-byte-at .before .before in
+    let at-end-of = c .before .before .before in
+    let at-byte-at = at-end-of .before .before .before .before .before .before in
+    let start = at-byte-at .before .before .before in
     let a = start .args in
+    let endOf = listed (a .ends .now) in
     let pair = between (a .p) (a .end) in
     c .spread2 .ensures
-    ∙ ap (λ (k : ℕ). spread 9 (a .p) (byte Letter.A) pair (between (a .end + 1) k) nothing) (at-part-end .part-end .ensures)
-    ∙ pair-letter (a .s .now) (a .p) (a .mid) (a .end) (at-byte-at .byte-at .result) (at-byte-at .byte-at .ensures) Letter.A
+    ∙ ap (λ (k : ℕ). spread 9 (a .p) (byte Letter.A) pair (between (a .end + 1) k) nothing) (at-end-of .end-of .ensures .0)
+    ∙ pair-letter endOf (a .s .now) (a .p) (a .mid) (a .end) (at-byte-at .byte-at .result) (at-byte-at .byte-at .ensures) Letter.A
     (c .before .if6 .taken)
 
 spread-requires-3 : tie.Need-spread-requires-3
@@ -113,14 +120,15 @@ spread-requires-3 c κs = search needs
 
 returns-7 : tie.Need-returns-7
 returns-7 c =
-    let at-part-end = c .before .before .before .before in
-    let at-byte-at = at-part-end .before .before .before .before .before .before in
-    let start = at-byte-at .before .before in
+    let at-end-of = c .before .before .before .before in
+    let at-byte-at = at-end-of .before .before .before .before .before .before in
+    let start = at-byte-at .before .before .before in
     let a = start .args in
+    let endOf = listed (a .ends .now) in
     let pair = between (a .p) (a .end) in
     c .spread3 .ensures
-    ∙ ap (λ (k : ℕ). spread 11 (a .p) (byte Letter.B) pair (between (a .end + 1) k) pair) (at-part-end .part-end .ensures)
-    ∙ pair-letter (a .s .now) (a .p) (a .mid) (a .end) (at-byte-at .byte-at .result) (at-byte-at .byte-at .ensures) Letter.B
+    ∙ ap (λ (k : ℕ). spread 11 (a .p) (byte Letter.B) pair (between (a .end + 1) k) pair) (at-end-of .end-of .ensures .0)
+    ∙ pair-letter endOf (a .s .now) (a .p) (a .mid) (a .end) (at-byte-at .byte-at .result) (at-byte-at .byte-at .ensures) Letter.B
     (c .before .if7 .taken)
 
 unchanged-requires : tie.Need-unchanged-requires
@@ -135,8 +143,9 @@ returns-8 c =
     let at-if2 = at-if3 .before in
     let at-if1 = at-if2 .before in
     let at-byte-at = at-if1 .before in
-    let start = at-byte-at .before .before in
+    let start = at-byte-at .before .before .before in
     let a = start .args in
+    let endOf = listed (a .ends .now) in
     let other : Other (at-byte-at .byte-at .result) =
     record {
       no-J = at-if1 .if1 .left;
@@ -147,8 +156,8 @@ returns-8 c =
       no-B = c .before .if7 .left;
       no-bell = sym (at-bell .before .is-bell .ensures) ∙ at-bell .if4 .left;
     } in
-    c .unchanged .ensures ∙ pair-others (a .s .now) (a .p) (a .mid) (a .end) (at-byte-at .byte-at .result) (at-byte-at .byte-at .ensures)
-    other
+    c .unchanged .ensures
+    ∙ pair-others endOf (a .s .now) (a .p) (a .mid) (a .end) (at-byte-at .byte-at .result) (at-byte-at .byte-at .ensures) other
 
 pub pair-at-spec : {M : Type 1} → statement M
 pair-at-spec =
@@ -156,7 +165,7 @@ pair-at-spec =
     (tie.spec
     byte-at-requires
     add-inner
-    add-t11
+    add-t12
     picked-requires
     returns
     add-picked
@@ -167,7 +176,7 @@ pair-at-spec =
     is-bell-requires
     picked-requires-4
     returns-4
-    part-end-requires
+    end-of-requires
     add-spread
     spread-requires
     returns-5

@@ -3,22 +3,24 @@ use mathlib.Core.Path.{sym}
 use borrow.Author.Needs.{needs}
 use lib.Seq.{length-take-le}
 use Rattle.calculus.specs.Term.{Term}
+use Rattle.reducing.specs.Makes.{Makes}
+use Rattle.reducing.proofs.Makes.{next-none, next-made}
 use Rattle.stepping.specs.Held.{Holds}
-use Rattle.stepping.proofs.Stepped.{Makes, held-makes, after-normal, after-no-room, after-step}
+use Rattle.stepping.proofs.Stepped.{held-next, after-normal, after-no-room, after-step}
 use Rattle.stepping.proofs.advance.Statement.{statement}
 use Rattle.stepping.proofs.advance.Tie as tie
 
-slice-reshare-prefix-redex : tie.Need-slice-reshare-prefix-redex
-slice-reshare-prefix-redex c = search needs
+slice-reshare-prefix-next-rewrite : tie.Need-slice-reshare-prefix-next-rewrite
+slice-reshare-prefix-next-rewrite c = search needs
 
-slice-aggregate-redex : tie.Need-slice-aggregate-redex
-slice-aggregate-redex c =
+slice-aggregate-next-rewrite : tie.Need-slice-aggregate-next-rewrite
+slice-aggregate-next-rewrite c =
     let start = c .before .before .before in
     let a = start .args in
     sym (length-take-le (a .len) (a .area .now) (start .pre .0))
 
-redex-requires : tie.Need-redex-requires
-redex-requires c κs = search needs
+next-rewrite-requires : tie.Need-next-rewrite-requires
+next-rewrite-requires c κs = search needs
 
 clear-requires : tie.Need-clear-requires
 clear-requires c κs = search needs
@@ -33,23 +35,13 @@ returns : tie.Need-returns
 returns c =
     let at-clear = c .before .before .before .before in
     let at-if1 = at-clear .before .before .before in
-    let at-redex = at-if1 .before in
-    let start = at-redex .before .before .before .before in
+    let at-rewrite = at-if1 .before .before in
+    let start = at-rewrite .before .before .before .before in
     let a = start .args in
     let cleared = at-clear .clear .ensures in
-    λ t h. after-normal h (a .work .now) (at-redex .redex .ensures) (at-if1 .if1 .taken) (cleared .0) (cleared .1)
-
-slice-reshare-prefix-rewrite-at : tie.Need-slice-reshare-prefix-rewrite-at
-slice-reshare-prefix-rewrite-at c = search needs
-
-slice-aggregate-rewrite-at : tie.Need-slice-aggregate-rewrite-at
-slice-aggregate-rewrite-at c =
-    let start = c .before .before .before .before .before .before in
-    let a = start .args in
-    sym (length-take-le (a .len) (a .area .now) (start .pre .0))
-
-rewrite-at-requires : tie.Need-rewrite-at-requires
-rewrite-at-requires c κs = search needs
+    λ t h.
+    after-normal h (a .work .now) (next-none (held-next h (start .pre .2) (at-rewrite .next-rewrite .ensures)) (at-if1 .if1 .taken))
+    (cleared .0) (cleared .1)
 
 sub-if2 : tie.Need-sub-if2
 sub-if2 c = search needs
@@ -71,15 +63,13 @@ returns-2 c =
     let at-clear2 = c .before .before .before .before in
     let at-if2 = at-clear2 .before .before .before in
     let at-growth = at-if2 .before in
-    let at-rewrite-at = at-growth .before in
-    let at-if1 = at-rewrite-at .before .before in
-    let at-redex = at-if1 .before in
-    let start = at-redex .before .before .before .before in
+    let at-if1 = at-growth .before in
+    let at-rewrite = at-if1 .before .before in
+    let start = at-rewrite .before .before .before .before in
     let a = start .args in
-    let pre = start .pre in
-    let w = at-rewrite-at .rewrite-at in
+    let w = at-rewrite .next-rewrite in
     let makes : (t : Term) → Holds (a .area .now) (a .len) t → Makes t (w .result) =
-    λ t h. held-makes h (w .result) (at-redex .redex .ensures) (at-if1 .if1 .left) (w .ensures) in
+    λ t h. next-made (held-next h (start .pre .2) (w .ensures)) (at-if1 .if1 .left) in
     let cleared = at-clear2 .clear2 .ensures in
     λ t h. after-no-room h (a .work .now) (makes t h) (at-growth .growth .ensures) (at-if2 .if2 .taken) (cleared .0) (cleared .1)
 
@@ -97,32 +87,27 @@ returns-3 c =
     let at-write-back = c .before .before .before .before in
     let at-if2 = at-write-back .before .before .before in
     let at-growth = at-if2 .before in
-    let at-rewrite-at = at-growth .before in
-    let at-if1 = at-rewrite-at .before .before in
-    let at-redex = at-if1 .before in
-    let start = at-redex .before .before .before .before in
+    let at-if1 = at-growth .before in
+    let at-rewrite = at-if1 .before .before in
+    let start = at-rewrite .before .before .before .before in
     let a = start .args in
-    let pre = start .pre in
-    let w = at-rewrite-at .rewrite-at in
+    let w = at-rewrite .next-rewrite in
     let makes : (t : Term) → Holds (a .area .now) (a .len) t → Makes t (w .result) =
-    λ t h. held-makes h (w .result) (at-redex .redex .ensures) (at-if1 .if1 .left) (w .ensures) in
+    λ t h. next-made (held-next h (start .pre .2) (w .ensures)) (at-if1 .if1 .left) in
     let written = at-write-back .write-back .ensures in
-    λ t h. after-step h (a .work .now) (makes t h) (at-growth .growth .ensures) (at-if2 .if2 .left) (pre .1) (written .0) (written .1)
+    λ t h. after-step h (a .work .now) (makes t h) (at-growth .growth .ensures) (at-if2 .if2 .left) (start .pre .1) (written .0) (written .1)
 
 pub advance-spec : {M : Type 1} → statement M
 advance-spec =
     tie.close
     (tie.spec
-    slice-reshare-prefix-redex
-    slice-aggregate-redex
-    redex-requires
+    slice-reshare-prefix-next-rewrite
+    slice-aggregate-next-rewrite
+    next-rewrite-requires
     clear-requires
     same-length
     same-length-2
     returns
-    slice-reshare-prefix-rewrite-at
-    slice-aggregate-rewrite-at
-    rewrite-at-requires
     sub-if2
     growth-requires
     clear-requires-2

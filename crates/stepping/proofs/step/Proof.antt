@@ -92,7 +92,7 @@ advance-requires c κs =
     let answer = ap readingAnswer (sym (reading .1)) ∙ at-read .read .ensures in
     let read = reading-answered (a .area .now) (a .len) (a .work .now) (at-if1 .if1 .left) (at-if2 .if2 .left) (at-if3 .if3 .left)
     (reading .0 .0) answer in
-    (read .1 .within, at-if2 .if2 .left)
+    (read .1 .within, at-if2 .if2 .left, at-if1 .if1 .left)
 
 same-length-2 : tie.Need-same-length-2
 same-length-2 c = search needs

@@ -5,12 +5,13 @@
 //!   engine_test --bug NAME   every test on the engine with that bug
 
 use engine::Linked;
+use harness::lent::predict_fast;
 use harness::subject::Controller;
 use harness::suite::Suite;
 use harness::wrong::{bugs, Wrong};
 use harness::{
-    check_tests, compare_tests, count_tests, deep, finish_tests, huge, match_tests, read_tests, small_tests,
-    step_tests, threads,
+    check_tests, compare_tests, count_tests, deep, end_tests, finish_tests, huge, match_tests, read_tests,
+    small_tests, step_tests, threads,
 };
 
 /// What was written by hand: quick, and enough to see most of the bugs that are planted.
@@ -33,6 +34,7 @@ fn known(suite: &mut Suite, subject: impl Controller + Copy) {
 fn predicted(suite: &mut Suite, subject: impl Controller + Copy) {
     read_tests::predicted(suite, "engine", subject);
     step_tests::predicted(suite, "engine", subject);
+    end_tests::predicted(suite, "engine", subject, end_tests::WAYS, predict_fast);
     finish_tests::predicted(suite, "engine", subject);
     small_tests::predicted(suite, "engine", subject);
     small_tests::largest(suite, "engine", subject);

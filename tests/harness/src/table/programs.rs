@@ -185,6 +185,7 @@ fn long_inputs() -> Vec<Row> {
         named("16,385 letters", line("6\t16384\t", index(16_384), "\n"), "refused\t3\t0"),
         whole_area("16,384 letters", index(16_383), 0, index(16_383)),
         whole_area("16,384 letters, an index in a pair", line(".B", index(16_379), "IJ"), 1, index(16_379)),
+        whole_area("16,384 letters, an index under a full stop", line(".I", index(16_381), ""), 1, index(16_381)),
         whole_area(
             "16,384 letters, the last a bell",
             line("", repeated("R", 16_383), "0"),
@@ -202,7 +203,7 @@ fn long_inputs() -> Vec<Row> {
     ]
 }
 
-/// A term in the largest area that finishes; the deepest stack is used where an index stands in a pair.
+/// A term in the largest area that finishes; the deepest stack is used where an index stands under a full stop.
 fn whole_area(name: &str, term: Vec<u8>, steps: usize, result: Vec<u8>) -> Row {
     let input = line("1000000\t16384\t", term, "\n");
     Row { name: name.to_string(), input, printed: line(&format!("finished\t{steps}\t"), result, "") }
