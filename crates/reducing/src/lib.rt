@@ -24,7 +24,8 @@ const SOME: usize = 256;
 
 const MANY: usize = 2048;
 
-// The rewrite in the outermost application, which begins at `first`, by the ends of its parts.
+// The rewrite in the outermost application, which begins at `first`, by the ends of its parts. These are only read; `&mut` is how a slice
+// that lies behind a reference can be lent on.
 fn rewrite_by(s: &[u8], first: usize, ends: &mut [u16]) -> Rewrite
     ensures { λ r. ⌜ (Ends (listed (now (ends .entry))) (now (s .entry)) first (endAt (now (s .entry)) first)
         → MakesFrom (now (s .entry)) first r) ⌝ }
