@@ -70,7 +70,7 @@ module _ (t : Term) (s : List ℕ) (first : ℕ) (e : s ≡ text t) (at : first 
 
   -- where there is no full stop, nothing comes next
   pub nothing-next : (w : Rewrite) → first ≡ length s → w ≡ unchanged first → NextBy t w
-  nothing-next w none q = NextBy.nothing (first-none t (sym first-of ∙ none ∙ text-length)) (ap (λ (x : Rewrite). x .rule) q)
+  nothing-next w none q = NextBy.nothing (first-none t (sym first-of ∙ none ∙ text-length)) (q ∙ ap unchanged (none ∙ text-length))
 
 -- ---- what a caller learns of the rule
 
@@ -81,5 +81,5 @@ next-none {t} {w} (NextBy.makes made) n =
     absurd (omega (arith, change-range (step .change)))
 
 pub next-made : {t : Term} {w : Rewrite} → NextBy t w → ¬ (w .rule ≡ 0) → Makes t w
-next-made (NextBy.nothing e q) n = absurd (n q)
+next-made (NextBy.nothing e q) n = absurd (n (ap (λ (x : Rewrite). x .rule) q))
 next-made (NextBy.makes made) n = made

@@ -9,6 +9,7 @@ use Rattle.calculus.specs.Term.{Term, text, size}
 use Rattle.calculus.specs.Order.{Next, next}
 use Rattle.slices.specs.Find.{indexOf}
 use Rattle.rewriting.specs.declared.Rewrite.{Rewrite}
+use Rattle.rewriting.specs.Rewriting.{unchanged}
 use Rattle.rewriting.specs.Text.{rewritten}
 
 -- the rewrite w makes the next step of t; the text grows by the part that is written again and by nothing else
@@ -25,7 +26,7 @@ abbrev pub MakesFrom : (s : List ℕ) (first : ℕ) (w : Rewrite) → Type 0
 MakesFrom s first w =
     (t : Term) → s ≡ text t → length s ≤ areaLimit → first ≡ indexOf (byte Letter.stop) s → ¬ (first ≡ length s) → Makes t w
 
--- w has no rule where t has no next step, and else makes it
+-- w has no rule and keeps the whole text where t has no next step, and else makes it
 pub data NextBy (t : Term) (w : Rewrite) : Type 0 where
-  nothing : next t ≡ Next.stop → w .rule ≡ 0 → NextBy t w
+  nothing : next t ≡ Next.stop → w ≡ unchanged (size t) → NextBy t w
   makes : Makes t w → NextBy t w
