@@ -119,7 +119,7 @@ part-end-loop-again t c =
     let s = a .s .now .now in
     let before = c .before .before .before .loop in
     let call = c .part-end in
-    let next = end-next s (before .end) (before .left) (c .before .before .loop-test .taken) in (
+    let next = end-next s (before .end) (before .left) (omega arith) in (
       omega (arith, before .inv .0, call .ensures .0),
       ap (λ (n : ℕ). n + skip (before .left - 1) (drop n s)) (call .ensures .0) ∙ next ∙ before .inv .1,
       stored-then (omega (arith, before .inv .0)) (omega (arith, call .ensures .0)) (before .inv .2) (call .ensures .1),

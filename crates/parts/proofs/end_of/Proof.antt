@@ -7,7 +7,7 @@ use Rattle.parts.proofs.end_of.Statement.{statement}
 use Rattle.parts.proofs.end_of.Tie as tie
 
 returns : tie.Need-returns
-returns c = let a = c .before .before .args in (sym (List·getD-eq-default (a .ends .now) 0 {n = a .at} (c .if1 .taken)), omega arith)
+returns c = let a = c .before .before .args in (sym (List·getD-eq-default (a .ends .now) 0 {n = a .at} (omega arith)), omega arith)
 
 mul-wide : tie.Need-mul-wide
 mul-wide c = search needs
