@@ -17,6 +17,7 @@ pub mod program_tests;
 pub mod random;
 pub mod read_tests;
 pub mod reply;
+pub mod runs;
 pub mod self_tests;
 pub mod small_tests;
 pub mod step_tests;
