@@ -27,5 +27,7 @@ pub mod table;
 pub mod terms;
 pub mod threads;
 pub mod wrong;
+pub mod wrong_batch;
+pub mod wrong_batches;
 pub mod wrong_ends;
 pub mod wrong_print;
