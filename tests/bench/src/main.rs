@@ -1,8 +1,8 @@
 //! Times the engine and the second implementation side by side, in one run on one machine.
 //!
 //!   bench [PICTURE.svg]     every table, and a chart where a path is given
-//!   bench --dear            the calls that cost most, among them a run of 1,000,000 steps: some minutes
-//!   bench --only TABLE      one table: growth, small, short, counting, checking or stack
+//!   bench --dear [STEPS]    every run of finishing that was tried to find the dearest, with so much fuel or with all
+//!   bench --only TABLE      one table: growth, small, short, counting, checking, stack or dear
 //!   bench --rows WORD       the rows of the first table whose names have this word
 //!
 //! Both are built for release. Each call starts from the term with zeros behind it and a zeroed work area. Built with
@@ -13,6 +13,7 @@ mod chart;
 mod checking;
 mod counting;
 mod dear;
+mod dear_runs;
 mod growth;
 mod reducing;
 mod repeating;
@@ -27,12 +28,13 @@ use reducing::Timed;
 use table::Table;
 
 /// The tables behind the first two, each with its name.
-const TABLES: [(&str, fn() -> Table); 5] = [
+const TABLES: [(&str, fn() -> Table); 6] = [
     ("small", small::table),
     ("short", short_runs::table),
     ("counting", counting::table),
     ("checking", checking::table),
     ("stack", stack::table),
+    ("dear", dear::table),
 ];
 
 fn everything(picture: Option<&str>) {
@@ -42,7 +44,6 @@ fn everything(picture: Option<&str>) {
     println!("{}", reducing::table(&programs, &nested, &bells).text());
     println!("{}", growth::table(&nested).text());
     TABLES.iter().for_each(|(_, table)| println!("{}", table().text()));
-    println!("{}", dear::table(dear::STEPS).text());
     if let Some(path) = picture {
         std::fs::write(path, chart::svg(&nested)).expect("the picture can be written");
         println!("picture: {path}");
@@ -62,7 +63,8 @@ fn run() {
     println!("{}\n", timing::METHOD);
     let words: Vec<String> = std::env::args().skip(1).collect();
     match words.iter().map(String::as_str).collect::<Vec<_>>()[..] {
-        ["--dear"] => println!("{}", dear::table(dear::MOST_STEPS).text()),
+        ["--dear"] => println!("{}", dear::search_table(dear::MOST_STEPS).text()),
+        ["--dear", steps] => println!("{}", dear::search_table(steps.parse().expect("a number of steps")).text()),
         ["--only", name] => only(name),
         ["--rows", word] => println!("{}", reducing::rows_with(word).text()),
         ref words => everything(words.first().copied()),
