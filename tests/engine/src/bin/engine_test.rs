@@ -53,11 +53,11 @@ fn tests(subject: impl Controller + Sync + Copy) -> i32 {
     let mut suite = Suite::new();
     known(&mut suite, subject);
     predicted(&mut suite, subject);
-    machine_tests::all(&mut suite, "engine", subject);
     deep::all(&mut suite, "engine", subject);
     huge::all(&mut suite, "engine", subject);
     huge::far(&mut suite, "engine", subject);
     threads::all(&mut suite, "engine", subject);
+    machine_tests::all(&mut suite, "engine", subject);
     suite.end()
 }
 
