@@ -12,3 +12,4 @@ pub mod Results
 pub mod BellFree
 pub mod Ranges
 pub mod Counts
+pub mod Steps

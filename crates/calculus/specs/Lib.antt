@@ -10,6 +10,7 @@ pub mod Turning
 pub mod Order
 pub mod Run
 pub mod Counts
+pub mod Steps
 pub mod Types
 pub mod Typing
 pub mod Derivation

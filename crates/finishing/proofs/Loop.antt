@@ -1,88 +1,36 @@
--- Finishing's loop: its invariant, how a step keeps it, and what it comes to at each way out. Assumes nothing.
-use Prim.Native.Nat.{ℕ, suc, _+_, _-_, _≤_, _<_}
-use native.Mathlib.Numerals.{add-one}
+-- Finishing's loop: its invariant, how steps keep it, and what it comes to at each way out. Assumes nothing.
+use Prim.Native.Nat.{ℕ, _+_, _-_, _≤_, _<_}
 use native.Mathlib.Omega.{arith}
 use mathlib.Core.Path.{_≡_, refl, sym, _∙_, ap, subst}
-use mathlib.Core.Bool.{true, false}
-use mathlib.Core.List.{List, [], _∷_, _++_, List·Memᴰ}
-use types.Run.{OneOf, miss}
-use denote.Enum.Declared.{tagOf}
-use lib.ListN.{length, take, getD, set, length-append}
+use mathlib.Core.Bool.{Bool, true, false, cond}
+use mathlib.Core.List.{List, [], _++_}
+use lib.ListN.{length, take, length-append}
 use Rattle.calculus.specs.Limits.{fuelLimit}
 use Rattle.calculus.specs.Term.{Term, size}
-use Rattle.calculus.specs.Order.{Next, next}
-use Rattle.calculus.specs.Rule.{ruleNumbers}
+use Rattle.calculus.specs.Steps.{Steps}
 use Rattle.calculus.specs.Run.{Outcome, run, count, reached}
-use Rattle.calculus.specs.Counts.{occurrences, tally, uses}
-use Rattle.calculus.proofs.Order.{Says, says}
-use Rattle.calculus.proofs.Ranges.{change-listed, listed-range}
-use Rattle.calculus.proofs.Counts.{occurrences-few, tally-at, tally-more}
-use Rattle.reading.specs.Reply.{Reply, passedOn}
-use Rattle.reading.specs.Answer.{answerOf as readingAnswer}
+use Rattle.calculus.specs.Counts.{tally, uses}
 use Rattle.stepping.specs.Held.{Holds}
-use Rattle.stepping.specs.Stepping.{Stepped}
-use Rattle.stepping.specs.Answer.{answerOf}
-use Rattle.stepping.specs.declared.Stepping.{Stepping}
-use Rattle.stepping.specs.declared.Stepping.the-variants.{AreaTooLong, WorkTooShort, LengthTooLong, Unread, Normal, NoRoom, Done}
-use Rattle.stepping.proofs.Stepping.{the-type}
 use Rattle.stepping.proofs.Calls.{held-unique}
+use Rattle.tallies.specs.Tallies.{Addable}
 use Rattle.finishing.specs.Finishing.{Ran, noUses}
-use Rattle.finishing.specs.Loop.{hasStop, Ready, Countable, bumped, StepsOn, Reaches}
-use Rattle.finishing.proofs.Passing.{Passes, passes-start, passes-step, Comes, comes-finished, comes-spent, comes-no-room}
+use Rattle.finishing.specs.Loop.{hasStop, endWithoutFuel, Ready, MovesOn, Reaches}
+use Rattle.finishing.proofs.Passing.{Passes, passes-start, passes-steps, Comes, comes-finished, comes-spent, comes-no-room}
 use Rattle.finishing.proofs.Stops.{no-stop-next, stop-next}
 use Rattle.finishing.proofs.Lending.{held-size}
-
--- ---- what stepping answered
-
--- the rule of a next step is listed
-next-listed : (t : Term) {u : Term} {rule : ℕ} → next t ≡ Next.step rule u → List·Memᴰ rule ruleNumbers
-next-listed t e = change-listed (subst (Says t) e (says t) .change)
-
-module _ {area area′ : List ℕ} {t : Term} where
-  -- it did not refuse
-  never : (r : Reply ℕ) → ¬ StepsOn area area′ t (passedOn r)
-  never (Reply.refused number place) s = elim s [ ]
-  never (Reply.answered n) s = elim s [ ]
-
-  -- the rule of a step that was made is listed
-  step-listed : {rule n : ℕ} → StepsOn area area′ t (Reply.answered (Stepped.stepped rule n)) → List·Memᴰ rule ruleNumbers
-  step-listed (StepsOn.stepped f fits held) = next-listed t f
-
-  -- no room: the next term is larger than the area
-  answered-no-room :
-      (r : Stepping) → tagOf the-type r ≡ 5 → StepsOn area area′ t (answerOf r) →
-      (n : ℕ) × (u : Term) × (next t ≡ Next.step n u) × (length area < size u) × Holds area′ (size t) t
-  answered-no-room AreaTooLong k s = absurd (omega arith)
-  answered-no-room WorkTooShort k s = absurd (omega arith)
-  answered-no-room LengthTooLong k s = absurd (omega arith)
-  answered-no-room (Unread reading) k s = absurd (omega arith)
-  answered-no-room (Normal n) k s = absurd (omega arith)
-  answered-no-room (NoRoom n) k (StepsOn.no-room e larger held) = (_, _, e, larger, held)
-  answered-no-room (Done rule n) k s = absurd (omega arith)
-
-  -- neither no room nor a step: nothing comes next
-  answered-normal :
-      (r : Stepping) → OneOf (0 ∷ 1 ∷ 2 ∷ 3 ∷ 4 ∷ 6 ∷ []) (tagOf the-type r) → OneOf (0 ∷ 1 ∷ 2 ∷ 3 ∷ 4 ∷ 5 ∷ []) (tagOf the-type r) →
-      StepsOn area area′ t (answerOf r) → (next t ≡ Next.stop) × Holds area′ (size t) t
-  answered-normal AreaTooLong j k s = elim s [ ]
-  answered-normal WorkTooShort j k s = elim s [ ]
-  answered-normal LengthTooLong j k s = elim s [ ]
-  answered-normal (Unread reading) j k s = absurd (never (readingAnswer reading) s)
-  answered-normal (Normal n) j k (StepsOn.normal e held) = (e, held)
-  answered-normal (NoRoom n) j k s = absurd (miss (0 ∷ 1 ∷ 2 ∷ 3 ∷ 4 ∷ 6 ∷ []) 5 tt j)
-  answered-normal (Done rule n) j k s = absurd (miss (0 ∷ 1 ∷ 2 ∷ 3 ∷ 4 ∷ 5 ∷ []) 6 tt k)
-
--- ---- the invariant
+use Rattle.finishing.proofs.Moving.{stays}
 
 -- with that many steps made the area holds a term that the run of the first passes, and the counts are those of the rules used so far
 pub record At (fuel : ℕ) (area₀ : List ℕ) (len made : ℕ) (counts area : List ℕ) (size : ℕ) (work : List ℕ) : Type 0 where
   pub ready : Ready area size work
   pub long : length area ≡ length area₀
+  pub within : made ≤ fuel
   pub used : List ℕ
   pub counted : length used ≡ made
   pub tallied : counts ≡ tally used
   pub passes : (t : Term) → Holds area₀ len t → Passes fuel (length area₀) t used (ready .term)
 
+-- it holds with no step made
 pub at-start :
     (fuel : ℕ) (area : List ℕ) (len : ℕ) (work : List ℕ) → Ready area len work →
     At fuel area len 0 noUses area len work
@@ -90,11 +38,13 @@ at-start fuel area len work ready =
     record {
       ready = ready;
       long = refl;
+      within = omega arith;
       used = [];
       counted = refl;
       tallied = refl;
       passes =
-          λ t h. subst (Passes fuel (length area) t []) (held-unique area len t (ready .term) h (ready .held)) (passes-start fuel (length area) t);
+          λ t h. subst (Passes fuel (length area) t []) (held-unique area len t (ready .term) h (ready .held))
+          (passes-start fuel (length area) t);
     }
 
 -- the record of a run that has come to its end, beside the term that the area holds
@@ -113,82 +63,68 @@ reaches {fuel} {len} {area} {counts} {size′} {made} {used} {t} {u} o counted t
     }
 
 module _
-    {fuel : ℕ} {area₀ : List ℕ} {len made : ℕ} {counts area : List ℕ} {size : ℕ} {work : List ℕ} (at : At fuel area₀ len made counts area size work)
+    {fuel : ℕ} {area₀ : List ℕ} {len made : ℕ} {counts area : List ℕ} {size : ℕ} {work : List ℕ}
+    (at : At fuel area₀ len made counts area size work)
   where
     -- ---- one pass
 
-    module _ {area′ : List ℕ} (r : Stepping) (more : made < fuel) (steps : (t : Term) → Holds area size t → StepsOn area area′ t (answerOf r)) where
-      now : StepsOn area area′ (at .ready .term) (answerOf r)
-      now = steps (at .ready .term) (at .ready .held)
+    module _
+        {more : ℕ} {later : List ℕ} {size′ : ℕ} {area′ : List ℕ} (left : made < fuel)
+        (moves : (t : Term) → Holds area size t → MovesOn area t (fuel - made) more later size′ area′)
+      where
+        -- the steps from the term that the area holds
+        now : MovesOn area (at .ready .term) (fuel - made) more later size′ area′
+        now = moves (at .ready .term) (at .ready .held)
 
-      -- what was done, where it was a step
-      done : {rule next : ℕ} → r ≡ Done rule next → StepsOn area area′ (at .ready .term) (Reply.answered (Stepped.stepped rule next))
-      done e = subst (λ (x : Stepping). StepsOn area area′ (at .ready .term) (answerOf x)) e now
+        -- the steps made are within the fuel
+        pub at-few : made + more ≤ fuel
+        at-few = omega (arith, now .advances .few, now .advances .counted)
 
-      -- its rule's count can take one more
-      pub at-count : {rule next : ℕ} → fuel ≤ fuelLimit → r ≡ Done rule next → Countable counts rule
-      at-count {rule} few e =
-          let listed = step-listed (done e) in
-          let (first, last) = listed-range listed in
-          let so-far : getD counts (rule - 1) 0 ≡ occurrences rule (at .used) =
-          ap (λ (l : List ℕ). getD l (rule - 1) 0) (at .tallied) ∙ tally-at (at .used) listed in
-          record { first = first; last = last; few = omega (arith, so-far, occurrences-few rule (at .used), at .counted) }
+        -- the counts can be added
+        pub at-addable : fuel ≤ fuelLimit → Addable counts later
+        at-addable few =
+            record {
+              used = at .used;
+              later = now .advances .rules;
+              first = at .tallied;
+              second = now .advances .tallied;
+              few = omega (arith, at-few, at .counted, now .advances .counted);
+            }
 
-      -- a step keeps the invariant
-      pub at-step :
-          (rule next : ℕ) (counts′ work′ : List ℕ) → r ≡ Done rule next → counts′ ≡ bumped counts rule → length area′ ≡ length area →
-          length work′ ≡ length work → At fuel area₀ len (made + 1) counts′ area′ next work′
-      at-step rule next counts′ work′ e bump long wide = go (done e)
-        where
-          go :
-              {n : ℕ} → StepsOn area area′ (at .ready .term) (Reply.answered (Stepped.stepped rule n)) →
-              At fuel area₀ len (made + 1) counts′ area′ n work′
-          go (StepsOn.stepped {u = u} f fits held) =
-              record {
-                ready = record { short = omega (arith, at .ready .short); room = omega (arith, at .ready .room); term = u; held = held };
-                long = long ∙ at .long;
-                used = at .used ++ (rule ∷ []);
-                counted = length-append (at .used) (rule ∷ []) ∙ ap (λ (k : ℕ). k + 1) (at .counted);
-                tallied =
-                    bump
-                    ∙ ap (λ (l : List ℕ). bumped l rule) (at .tallied)
-                    ∙ ap (set (tally (at .used)) (rule - 1)) (add-one (getD (tally (at .used)) (rule - 1) 0))
-                    ∙ sym (tally-more (at .used) (next-listed (at .ready .term) f));
-                passes = λ t h. passes-step (at .passes t h) (omega (arith, at .counted)) f (omega (arith, at .long));
-              }
+        -- steps keep the invariant
+        pub at-batch :
+            {counts′ work′ : List ℕ} →
+            ((used rules : List ℕ) → counts ≡ tally used → later ≡ tally rules → counts′ ≡ tally (used ++ rules)) →
+            length area′ ≡ length area → length work′ ≡ length work → At fuel area₀ len (made + more) counts′ area′ size′ work′
+        at-batch sum long wide =
+            let a = now .advances in
+            let room : Steps (length area₀) (at .ready .term) (a .rules) (a .term) =
+            subst (λ (n : ℕ). Steps n (at .ready .term) (a .rules) (a .term)) (at .long) (a .steps) in
+            record {
+              ready =
+                  record { short = omega (arith, at .ready .short); room = omega (arith, at .ready .room); term = a .term; held = a .held };
+              long = long ∙ at .long;
+              within = at-few;
+              used = at .used ++ a .rules;
+              counted = omega (arith, length-append (at .used) (a .rules), at .counted, a .counted);
+              tallied = sum (at .used) (a .rules) (at .tallied) (a .tallied);
+              passes = λ t h. passes-steps (at .passes t h) room (omega (arith, at-few, at .counted, a .counted));
+            }
 
-      -- no room
-      pub at-no-room :
-          tagOf the-type r ≡ 5 → (t : Term) → Holds area₀ len t →
-          Reaches t (run fuel (length area₀) t) (Ran.ran Outcome.no-room made counts size) area′
-      at-no-room k t h =
-          let (n, u, e, larger, held) = answered-no-room r k now in
-          reaches Outcome.no-room (at .counted) (at .tallied)
-          (comes-no-room (at .passes t h) (omega (arith, at .counted)) e (omega (arith, at .long)))
-          (subst (λ (m : ℕ). Holds area′ m (at .ready .term)) (sym (held-size (at .ready .held))) held)
+        -- a full stop, and no step: no room
+        pub at-stuck :
+            more ≡ 0 → true ≡ hasStop (take size area) → (t : Term) → Holds area₀ len t →
+            Reaches t (run fuel (length area₀) t) (Ran.ran Outcome.no-room made counts size) area′
+        at-stuck none e t h =
+            let (n, u, f) = stop-next (at .ready .term) (ap hasStop (sym (at .ready .held .written)) ∙ sym e) in
+            let held = stays (now .advances) (omega arith) .1 in
+            reaches Outcome.no-room (at .counted) (at .tallied)
+            (comes-no-room (at .passes t h) (omega (arith, at .counted)) f (omega (arith, now .stuck none n u f, at .long)))
+            (subst (λ (m : ℕ). Holds area′ m (at .ready .term)) (held-size held ∙ sym (held-size (at .ready .held))) held)
 
-      -- nothing comes next
-      pub at-normal :
-          OneOf (0 ∷ 1 ∷ 2 ∷ 3 ∷ 4 ∷ 6 ∷ []) (tagOf the-type r) → OneOf (0 ∷ 1 ∷ 2 ∷ 3 ∷ 4 ∷ 5 ∷ []) (tagOf the-type r) →
-          (t : Term) → Holds area₀ len t → Reaches t (run fuel (length area₀) t) (Ran.ran Outcome.finished made counts size) area′
-      at-normal j k t h =
-          let (e, held) = answered-normal r j k now in
-          reaches Outcome.finished (at .counted) (at .tallied) (comes-finished (at .passes t h) e)
-          (subst (λ (m : ℕ). Holds area′ m (at .ready .term)) (sym (held-size (at .ready .held))) held)
+    -- ---- with no step to make
 
-    -- ---- with no fuel left
-
-    -- a full stop: spent
-    pub at-stop :
-        fuel ≤ made → true ≡ hasStop (take size area) → (t : Term) → Holds area₀ len t →
-        Reaches t (run fuel (length area₀) t) (Ran.ran Outcome.spent made counts size) area
-    at-stop all e t h =
-        let (n, u, f) = stop-next (at .ready .term) (ap hasStop (sym (at .ready .held .written)) ∙ sym e) in
-        let passes = at .passes t h in
-        reaches Outcome.spent (at .counted) (at .tallied) (comes-spent passes (omega (arith, passes .bounded, at .counted)) f)
-        (at .ready .held)
-
-    -- none: finished
+    -- no full stop: finished
     pub at-no-stop :
         false ≡ hasStop (take size area) → (t : Term) → Holds area₀ len t →
         Reaches t (run fuel (length area₀) t) (Ran.ran Outcome.finished made counts size) area
@@ -196,3 +132,27 @@ module _
         reaches Outcome.finished (at .counted) (at .tallied)
         (comes-finished (at .passes t h) (no-stop-next (at .ready .term) (ap hasStop (sym (at .ready .held .written)) ∙ sym e)))
         (at .ready .held)
+
+    -- a full stop, and no fuel left: spent
+    at-stop :
+        fuel ≤ made → true ≡ hasStop (take size area) → (t : Term) → Holds area₀ len t →
+        Reaches t (run fuel (length area₀) t) (Ran.ran Outcome.spent made counts size) area
+    at-stop all e t h =
+        let (n, u, f) = stop-next (at .ready .term) (ap hasStop (sym (at .ready .held .written)) ∙ sym e) in
+        reaches Outcome.spent (at .counted) (at .tallied)
+        (comes-spent (at .passes t h) (omega (arith, at .within, at .counted)) f)
+        (at .ready .held)
+
+    -- no fuel left: the one or the other
+    pub at-end :
+        {o : Outcome} → fuel ≤ made → o ≡ endWithoutFuel (take size area) → (t : Term) → Holds area₀ len t →
+        Reaches t (run fuel (length area₀) t) (Ran.ran o made counts size) area
+    at-end all e t h =
+        subst (λ (x : Outcome). Reaches t (run fuel (length area₀) t) (Ran.ran x made counts size) area) (sym e)
+        (go (hasStop (take size area)) refl)
+      where
+        go :
+            (b : Bool) → hasStop (take size area) ≡ b →
+            Reaches t (run fuel (length area₀) t) (Ran.ran (cond b Outcome.spent Outcome.finished) made counts size) area
+        go true f = at-stop all (sym f) t h
+        go false f = at-no-stop (sym f) t h

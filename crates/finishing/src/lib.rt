@@ -1,5 +1,7 @@
-// Finishing: the run of the term in a lent area.
+// Finishing: the run of the term in a lent area. `stepping::steps` makes several steps at once, and where it makes none `stepping::step`
+// makes the next one or finds that it has no room.
 use admission::Admission;
+use stepping::Batch;
 use stepping::Stepping;
 ghost use mathlib.Core.Path.{_≡_};
 ghost use Prim.Native.Nat.{_≤_, _*_, min};
@@ -11,8 +13,8 @@ ghost use Rattle.stepping.specs.Held.{Holds};
 ghost use Rattle.stepping.specs.Answer.{answerOf};
 ghost use Rattle.admission.specs.Answer.{replyOf};
 ghost use Rattle.finishing.specs.Finishing.{After, noRun, finishingOf};
-ghost use Rattle.finishing.specs.Answer.{ranOf};
-ghost use Rattle.finishing.specs.Loop.{hasStop, Ready, Countable, bumped, StepsOn, Reaches};
+ghost use Rattle.finishing.specs.Answer.{outcomeOf, ranOf};
+ghost use Rattle.finishing.specs.Loop.{hasStop, endWithoutFuel, Ready, StepsOn, MovesOn, Reaches};
 
 // How a run ends.
 pub enum Outcome {
@@ -64,6 +66,16 @@ fn has_stop(s: &[u8]) -> bool
     slices::find(s, calculus::letters::STOP) < s.len()
 }
 
+// How a run ends that has no fuel left, by the bytes of the term reached.
+fn end_without_fuel(s: &[u8]) -> Outcome
+    ensures { λ r. ⌜ outcomeOf r ≡ endWithoutFuel (now (s .entry)) ⌝ }
+{
+    if has_stop(s) {
+        return Outcome::Spent;
+    }
+    Outcome::Finished
+}
+
 // The next step of the term in the first `size` bytes.
 fn step_once(area: &mut [u8], size: usize, work: &mut [u8]) -> Stepping
     requires { ⌜ Ready (now area) size (now work) ⌝ }
@@ -73,15 +85,29 @@ fn step_once(area: &mut [u8], size: usize, work: &mut [u8]) -> Stepping
     stepping::step(&mut area[..n], size, &mut work[..n])
 }
 
-// The counts with one use more of that rule.
-fn used_once(by_rule: [u32; calculus::RULES], rule: u8) -> [u32; calculus::RULES]
-    requires { ⌜ Countable «by_rule» rule ⌝ }
-    ensures { λ r. ⌜ r ≡ bumped «by_rule» rule ⌝ }
+// Up to `most` steps of the term in the first `size` bytes: several at once, or else the next one alone. None only where there is no next
+// step, or no room for it.
+fn make_steps(area: &mut [u8], size: usize, work: &mut [u8], most: u64) -> Batch
+    requires { ⌜ Ready (now area) size (now work) ⌝ }
+    requires { ⌜ 1 ≤ most ⌝ }
+    ensures { λ r. ⌜ ((t : Term) → Holds (now (area .entry)) size t
+        → MovesOn (now (area .entry)) t most (r .made) (r .«by_rule») (r .size) (now (area .exit))) ⌝ }
 {
-    let place = rule as usize - 1;
-    let mut counts = by_rule;
-    counts[place] += 1;
-    counts
+    let batch = stepping::steps(area, size, most);
+    if 0 < batch.made {
+        return batch;
+    }
+    let stepping = step_once(area, batch.size, work);
+    let Stepping::Done(rule, next) = stepping else {
+        return batch;
+    };
+    let mut by_rule = batch.by_rule;
+    tallies::count_use(&mut by_rule, rule);
+    Batch {
+        made: 1,
+        by_rule,
+        size: next,
+    }
 }
 
 // The run of the term in the first `len` bytes; what stands behind the term reached, and in the work area, is left.
@@ -95,8 +121,16 @@ fn run_term(area: &mut [u8], len: usize, work: &mut [u8], fuel: u64) -> Run
     let mut count: u64 = 0;
     let mut by_rule = [0u32; calculus::RULES];
     while count < fuel {
-        let stepping = step_once(area, size, work);
-        if let Stepping::NoRoom(_) = stepping {
+        if !has_stop(&area[..size]) {
+            return Run {
+                outcome: Outcome::Finished,
+                count,
+                by_rule,
+                size,
+            };
+        }
+        let batch = make_steps(area, size, work, fuel - count);
+        if batch.made == 0 {
             return Run {
                 outcome: Outcome::NoRoom,
                 count,
@@ -104,29 +138,15 @@ fn run_term(area: &mut [u8], len: usize, work: &mut [u8], fuel: u64) -> Run
                 size,
             };
         }
-        let Stepping::Done(rule, next) = stepping else {
-            return Run {
-                outcome: Outcome::Finished,
-                count,
-                by_rule,
-                size,
-            };
-        };
-        let more = used_once(by_rule, rule);
-        by_rule = more;
-        size = next;
-        count += 1;
+        let later = batch.by_rule;
+        let sum = tallies::added(by_rule, later);
+        by_rule = sum;
+        size = batch.size;
+        count += batch.made;
     }
-    if has_stop(&area[..size]) {
-        return Run {
-            outcome: Outcome::Spent,
-            count,
-            by_rule,
-            size,
-        };
-    }
+    let outcome = end_without_fuel(&area[..size]);
     Run {
-        outcome: Outcome::Finished,
+        outcome,
         count,
         by_rule,
         size,

@@ -2,3 +2,4 @@ pub mod Areas
 pub mod Stepping
 pub mod Answer
 pub mod Held
+pub mod Batch

@@ -1,17 +1,23 @@
 //! Times the engine and the second implementation side by side, in one run on one machine.
 //!
-//!   bench [PICTURE.svg]    every table, and a chart where a path is given
-//!   bench --dear           the calls that cost most, among them a run of 1,000,000 steps: some minutes
+//!   bench [PICTURE.svg]     every table, and a chart where a path is given
+//!   bench --dear [STEPS]    every run of finishing that was tried to find the dearest, with so much fuel or with all
+//!   bench --only TABLE      one table: growth, small, short, counting, checking, stack or dear
+//!   bench --rows WORD       the rows of the first table whose names have this word
 //!
 //! Both are built for release. Each call starts from the term with zeros behind it and a zeroed work area. Built with
 //! CONTROLLER_DIR set, it times the archive in that folder.
 
+mod batched;
 mod chart;
 mod checking;
 mod counting;
 mod dear;
+mod dear_runs;
 mod growth;
 mod reducing;
+mod repeating;
+mod short_runs;
 mod small;
 mod stack;
 mod table;
@@ -19,27 +25,35 @@ mod terms;
 mod timing;
 
 use reducing::Timed;
+use table::Table;
 
-fn everything(picture: Option<String>) {
+/// The tables behind the first two, each with its name.
+const TABLES: [(&str, fn() -> Table); 6] = [
+    ("small", small::table),
+    ("short", short_runs::table),
+    ("counting", counting::table),
+    ("checking", checking::table),
+    ("stack", stack::table),
+    ("dear", dear::table),
+];
+
+fn everything(picture: Option<&str>) {
     let programs: Vec<Timed> = terms::programs().iter().map(reducing::time).collect();
     let nested: Vec<Timed> = terms::nested().iter().map(reducing::time).collect();
     let bells: Vec<Timed> = terms::bells().iter().map(reducing::time).collect();
-    let tables = [
-        reducing::table(&programs, &nested, &bells),
-        growth::table(&nested),
-        small::table(),
-        counting::table(),
-        checking::table(),
-        stack::table(),
-        dear::table(dear::STEPS),
-    ];
-    for table in tables {
-        println!("{}", table.text());
-    }
+    println!("{}", reducing::table(&programs, &nested, &bells).text());
+    println!("{}", growth::table(&nested).text());
+    TABLES.iter().for_each(|(_, table)| println!("{}", table().text()));
     if let Some(path) = picture {
-        std::fs::write(&path, chart::svg(&nested)).expect("the picture can be written");
+        std::fs::write(path, chart::svg(&nested)).expect("the picture can be written");
         println!("picture: {path}");
     }
+}
+
+fn only(name: &str) {
+    let tables = [("growth", growth::alone as fn() -> Table)].into_iter().chain(TABLES);
+    let (_, table) = tables.into_iter().find(|table| table.0 == name).expect("a table of that name");
+    println!("{}", table().text());
 }
 
 fn run() {
@@ -47,9 +61,13 @@ fn run() {
         println!("the engine is the archive in {folder}");
     }
     println!("{}\n", timing::METHOD);
-    match std::env::args().nth(1) {
-        Some(word) if word == "--dear" => println!("{}", dear::table(dear::MOST_STEPS).text()),
-        picture => everything(picture),
+    let words: Vec<String> = std::env::args().skip(1).collect();
+    match words.iter().map(String::as_str).collect::<Vec<_>>()[..] {
+        ["--dear"] => println!("{}", dear::search_table(dear::MOST_STEPS).text()),
+        ["--dear", steps] => println!("{}", dear::search_table(steps.parse().expect("a number of steps")).text()),
+        ["--only", name] => only(name),
+        ["--rows", word] => println!("{}", reducing::rows_with(word).text()),
+        ref words => everything(words.first().copied()),
     }
 }
 

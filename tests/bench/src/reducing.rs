@@ -1,7 +1,8 @@
-//! Nanoseconds a step, in whole runs and in single calls of stepping.
+//! Nanoseconds a step, in whole runs by finishing and by stepping, and in single calls of stepping.
 
+use crate::repeating;
 use crate::table::{number, Table};
-use crate::terms::{nested_name, Case, AREA, LARGE, NESTED, SMALL};
+use crate::terms::{bells, nested, nested_name, programs, Case, AREA, LARGE, NESTED, SMALL};
 use crate::timing::shortest;
 use engine::Linked;
 use harness::reply::value;
@@ -15,8 +16,9 @@ use second::stepping::{self, Reducer};
 pub struct Timed {
     pub case: Case,
     pub steps: u64,
-    /// For each step of a whole run.
+    /// For each step of a whole run: by finishing, and by single calls of stepping.
     pub engine: f64,
+    pub stepping: f64,
     pub tree: f64,
     pub arena: f64,
     /// For a call of stepping on the first term.
@@ -82,6 +84,7 @@ pub fn time(case: &Case) -> Timed {
         case: case.clone(),
         steps,
         engine: each(engine_finish(case, steps)),
+        stepping: repeating::time(case, steps),
         tree: each(second_finish::<Plain>(case)),
         arena: each(second_finish::<Machine>(case)),
         engine_step: engine_step(&case.text, AREA),
@@ -101,6 +104,8 @@ fn row(timed: &Timed) -> Vec<String> {
         timed.case.text.len().to_string(),
         timed.steps.to_string(),
         number(timed.engine),
+        number(timed.stepping),
+        number(timed.stepping / timed.engine),
         number(timed.tree),
         number(timed.arena),
         number(timed.engine / timed.tree),
@@ -110,23 +115,38 @@ fn row(timed: &Timed) -> Vec<String> {
     ]
 }
 
-pub fn table(programs: &[Timed], nested: &[Timed], bells: &[Timed]) -> Table {
-    let heads = [
-        "term",
-        "letters",
-        "steps",
-        "engine",
-        "Rust tree",
-        "Rust arena",
-        "engine/tree",
-        "engine/arena",
-        "one call: engine",
-        "Rust arena",
-    ];
-    let large = NESTED.iter().flat_map(|(name, _)| [SMALL, LARGE].map(|letters| at_size(nested, name, letters)));
+const HEADS: [&str; 12] = [
+    "term",
+    "letters",
+    "steps",
+    "engine",
+    "stepping",
+    "stepping/engine",
+    "Rust tree",
+    "Rust arena",
+    "engine/tree",
+    "engine/arena",
+    "one call: engine",
+    "Rust arena",
+];
+
+fn table_of<'a>(timed: impl Iterator<Item = &'a Timed>) -> Table {
     Table::new(
-        "Nanoseconds a step: whole runs in an area of 16,384 bytes, and one call of stepping",
-        &heads,
-        programs.iter().chain(large).chain(bells).map(row).collect(),
+        "Nanoseconds a step: whole runs in an area of 16,384 bytes (engine: by finishing; stepping: by its calls of \
+         stepping), and one call of stepping",
+        &HEADS,
+        timed.map(row).collect(),
     )
+}
+
+pub fn table(programs: &[Timed], nested: &[Timed], bells: &[Timed]) -> Table {
+    let large = NESTED.iter().flat_map(|(name, _)| [SMALL, LARGE].map(|letters| at_size(nested, name, letters)));
+    table_of(programs.iter().chain(large).chain(bells))
+}
+
+/// The rows whose names have this word, of all sizes.
+pub fn rows_with(word: &str) -> Table {
+    let cases = [programs(), nested(), bells()].concat();
+    let timed: Vec<Timed> = cases.iter().filter(|case| case.name.contains(word)).map(time).collect();
+    table_of(timed.iter())
 }

@@ -1,11 +1,17 @@
 //! How much stack the engine uses: a thread's stack is painted first, and looked through afterwards.
 
+use crate::reducing::areas_of;
 use crate::table::Table;
+use crate::terms::AREA;
 use engine::Linked;
 use harness::check_tests::{dear, doubling};
 use harness::deep::{deep_bells, deep_terms};
+use harness::end_tests::PLACES;
+use harness::machine_runs::OMEGA;
 use harness::memory::Pages;
+use harness::runs::{all_pending, in_pairs, inert, nested_uses, swings};
 use harness::subject::Controller;
+use harness::terms::{joined, twice_nested};
 use second::comparing::Lent;
 use second::counting::COUNTS_SIZE;
 use std::ffi::c_void;
@@ -64,46 +70,85 @@ fn used(work: impl FnMut() + Send + 'static) -> String {
     used_by(Box::new(work)).saturating_sub(empty).to_string()
 }
 
-fn reading(text: Vec<u8>) -> String {
+/// A term with the size of its area and the fuel of its run.
+#[derive(Clone)]
+struct Lending {
+    name: String,
+    text: Vec<u8>,
+    area: usize,
+    fuel: u64,
+}
+
+/// Deep terms in areas of their own size: a few steps use as much stack as many.
+fn deep((name, text): (&'static str, Vec<u8>)) -> Lending {
+    Lending { name: name.to_string(), area: text.len(), text, fuel: 50 }
+}
+
+fn reading(lent: Lending) -> String {
     used(move || {
-        Linked.read(&text);
+        Linked.read(&lent.text);
     })
 }
 
-fn stepping(mut area: Vec<u8>) -> String {
-    let mut work = vec![0; area.len()];
+fn stepping(lent: Lending) -> String {
+    let (mut area, mut work) = areas_of(&lent.text, lent.area);
     used(move || {
-        Linked.step(&mut area, work.len(), &mut work);
+        Linked.step(&mut area, lent.text.len(), &mut work);
     })
 }
 
-fn finishing(mut area: Vec<u8>) -> String {
-    let mut work = vec![0; area.len()];
+fn finishing(lent: Lending) -> String {
+    let (mut area, mut work) = areas_of(&lent.text, lent.area);
     used(move || {
-        Linked.finish(&mut area, work.len(), &mut work, 50);
+        Linked.finish(&mut area, lent.text.len(), &mut work, lent.fuel);
     })
 }
 
-fn counting(mut area: Vec<u8>) -> String {
-    let (mut work, mut counts) = (vec![0; area.len()], [0; COUNTS_SIZE]);
+fn counting(lent: Lending) -> String {
+    let (mut area, mut work) = areas_of(&lent.text, lent.area);
+    let mut counts = [0; COUNTS_SIZE];
     used(move || {
-        Linked.finish_counted(&mut area, work.len(), &mut work, 50, &mut counts);
+        Linked.finish_counted(&mut area, lent.text.len(), &mut work, lent.fuel, &mut counts);
     })
 }
 
-fn comparing(mut first: Vec<u8>) -> String {
-    let (mut second, mut work) = (first.clone(), vec![0; first.len()]);
+fn comparing(lent: Lending) -> String {
+    let (mut first, mut work) = areas_of(&lent.text, lent.area);
+    let (mut second, length) = (first.clone(), lent.text.len());
     used(move || {
-        let (one, two) =
-            (Lent { length: first.len(), area: &mut first }, Lent { length: second.len(), area: &mut second });
-        Linked.compare(one, two, &mut work, 50);
+        let (one, two) = (Lent { length, area: &mut first }, Lent { length, area: &mut second });
+        Linked.compare(one, two, &mut work, lent.fuel);
     })
 }
 
-fn term_row(name: &str, text: Vec<u8>) -> Vec<String> {
-    let letters = text.len().to_string();
-    let used = [reading, stepping, finishing, counting, comparing].map(|operation| operation(text.clone()));
-    [name.to_string(), letters].into_iter().chain(used).collect()
+fn term_row(lent: Lending) -> Vec<String> {
+    let (name, letters) = (lent.name.clone(), lent.text.len().to_string());
+    let used = [reading, stepping, finishing, counting, comparing].map(|operation| operation(lent.clone()));
+    [name, letters].into_iter().chain(used).collect()
+}
+
+/// Long runs in the largest area: of few letters, of more and more, of many, and deep ones.
+fn long_runs() -> Vec<Lending> {
+    let long = |name: &str, text: Vec<u8>, fuel| Lending {
+        name: format!("{name}, {fuel} steps"),
+        text,
+        area: AREA,
+        fuel,
+    };
+    let around = PLACES.into_iter().map(|(place, around)| {
+        let [before, behind] = around(15_000);
+        long(&format!("a run {place}"), joined(&[&before, &nested_uses(8, 4), &behind]), 10_000)
+    });
+    let few = long("few letters", nested_uses(7, 2), 200);
+    let others = [
+        few,
+        long(".AIHJJAIHJJ", OMEGA.to_vec(), 60_000),
+        long("a closure used twice, 14 times", twice_nested(14), 50_000),
+        long("4,000 letters copied and dropped", swings(40, &inert(4_000)), 500),
+        long("in 2,000 pairs", in_pairs(2_000, &nested_uses(2, 2)), 10_000),
+        long("500 pending runs", all_pending(500, &nested_uses(3, 2)), 10_000),
+    ];
+    others.into_iter().chain(around).collect()
 }
 
 fn file_row(name: &str, file: Vec<u8>) -> Vec<String> {
@@ -119,12 +164,10 @@ fn file_row(name: &str, file: Vec<u8>) -> Vec<String> {
 }
 
 pub fn table() -> Table {
-    let rows_of =
-        |terms: Vec<(&str, Vec<u8>)>| terms.into_iter().map(|(name, text)| term_row(name, text)).collect();
-    let mut rows: Vec<Vec<String>> = rows_of(deep_terms());
+    let mut rows: Vec<Vec<String>> = deep_terms().into_iter().map(deep).map(term_row).collect();
     rows.push(file_row("file: terms that double", doubling(14)));
     rows.push(file_row("file: short lines that cite two long ones", dear()));
-    rows.extend::<Vec<_>>(rows_of(deep_bells()));
+    rows.extend(deep_bells().into_iter().map(deep).chain(long_runs()).map(term_row));
     Table::new(
         "Bytes of stack that a call of the engine uses",
         &[

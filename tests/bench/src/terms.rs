@@ -1,5 +1,7 @@
 //! The terms that are timed.
 
+use harness::machine_runs::OMEGA;
+use harness::runs::{inert, uses};
 use harness::terms::{index, joined, repeated, twice_nested, BELLS};
 
 pub const AREA: usize = 16_384;
@@ -49,7 +51,8 @@ pub fn programs() -> Vec<Case> {
         case("an iterator of 1,000 uses", iterator(1_000)),
         case("288 pairs under 12 places", long_chain()),
         case("60 changes, nested", nested_changes(60)),
-        Case { name: ".AIHJJAIHJJ".to_string(), text: b".AIHJJAIHJJ".to_vec(), fuel: 100_000 },
+        Case { fuel: 100_000, ..case(".AIHJJAIHJJ", OMEGA.to_vec()) },
+        case(".AIHJJAIHJJ, a million steps", OMEGA.to_vec()),
     ]
 }
 
@@ -107,6 +110,20 @@ pub const SMALL_SHAPES: [Shape; 3] = [
 
 /// The sizes of these terms; the engine's table of ends is longer from 33, from 257 and from 2,049 letters on.
 pub const SMALL_SIZES: [usize; 10] = [6, 11, 32, 33, 100, 256, 257, 1_000, 2_048, 2_049];
+
+/// Runs of fewer than ten steps with so many letters, each with its steps: behind an index, under full stops, with an
+/// index that is looked at, and with one that is copied.
+pub const SHORT_RUNS: [(Shape, u64); 6] = [
+    (("R^k .IJ", behind_an_index), 1),
+    (("R^k .BII.JRJ", |letters| joined(&[&repeated("R", letters - 8), b".BII.JRJ"])), 6),
+    (("....J R^k J JJJ", |letters| joined(&[b"....J", &index(letters - 9), b"JJJ"])), 4),
+    ((".B R^k J IRJ", |letters| joined(&[b".B", &index(letters - 6), b"IRJ"])), 2),
+    ((".AIRJ R^k J", |letters| joined(&[b".AIRJ", &index(letters - 6)])), 3),
+    ((".AIHJJ .BI R^k J J", |letters| uses(1, &inert(letters - 11))), 7),
+];
+
+/// The sizes of these terms.
+pub const SHORT_SIZES: [usize; 11] = [11, 20, 32, 33, 64, 65, 99, 200, 1_000, 4_000, 16_000];
 
 /// The sizes of the nested terms: all of them in the chart, the last two in the tables.
 pub const SIZES: [usize; 5] = [64, 256, 1_000, SMALL, LARGE];

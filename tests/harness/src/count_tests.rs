@@ -33,7 +33,7 @@ fn call_of(run: &finishing::Row, size: usize) -> Counted {
 }
 
 /// Demands a run's reply and term, and these counts.
-fn run_by_hand(subject: &dyn Controller, run: &finishing::Row, counts: &[u8], size: usize) -> Outcome {
+pub fn run_by_hand(subject: &dyn Controller, run: &finishing::Row, counts: &[u8], size: usize) -> Outcome {
     let lent = [padded(&run.after, run.area), vec![0; run.area + 2], in_buffer(counts, size)];
     demand_counted(subject, &call_of(run, size), &(from_words(&run.reply, run.after.len()), lent))
 }
@@ -132,7 +132,7 @@ fn added(one: &[u8], two: &[u8]) -> Vec<u8> {
 
 /// A run in calls of at most `piece` steps, each on the term that the one before left: the counts of all calls
 /// add up to those of one call with the whole fuel.
-fn taken_up(subject: &dyn Controller, counted: &Counted, piece: u64, expected: &AfterCounted) -> Outcome {
+pub fn taken_up(subject: &dyn Controller, counted: &Counted, piece: u64, expected: &AfterCounted) -> Outcome {
     let Counted { call, fuel, counts } = counted.clone();
     let (mut area, mut work, mut term, mut made) = (call.area, call.work, call.term, 0);
     let (mut sums, mut buffer) = (vec![0; SIZE], counts);

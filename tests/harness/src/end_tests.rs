@@ -28,7 +28,7 @@ const REDEXES: [(u8, &str); 8] = [
 ];
 
 /// The letters of the largest of these redexes.
-const REDEX: usize = 7;
+pub const REDEX: usize = 7;
 
 /// Bells in turn, so that no two neighbours are alike.
 fn leaf(place: usize) -> u8 {
@@ -96,10 +96,10 @@ fn filled(pattern: &str, size: usize, large: Large, way: usize) -> Vec<u8> {
     pattern.bytes().flat_map(|letter| piece(letter)).collect()
 }
 
-/// What stands before a redex and behind it, of so many letters in all.
-type Around = fn(usize) -> [Vec<u8>; 2];
+/// What stands before a redex and behind it, of so many letters in all, which are more than the redex has.
+pub type Around = fn(usize) -> [Vec<u8>; 2];
 
-const PLACES: [(&str, Around); 8] = [
+pub const PLACES: [(&str, Around); 8] = [
     ("behind R", |room| [repeated("R", room), vec![]]),
     ("behind pairs", |room| [joined(&[&repeated("R", room % 2), &repeated("BI", room / 2)]), vec![]]),
     ("behind a part", |room| around("Bx_", room)),

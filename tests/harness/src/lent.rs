@@ -186,10 +186,15 @@ pub struct Pair {
 /// What comparing replies, and the bytes of the two areas and the work area afterwards.
 pub type Compared = (u64, [Vec<u8>; 3]);
 
-/// What the second implementation replies to a pair.
+/// What the second implementation replies to a pair, with its plain reducer.
 pub fn predict_pair(pair: &Pair) -> Compared {
+    predict_pair_by::<Plain>(pair)
+}
+
+/// What it replies with one of its reducers.
+pub fn predict_pair_by<R: Reducer>(pair: &Pair) -> Compared {
     let (mut first, mut second, mut work) = (pair.first.clone(), pair.second.clone(), pair.work.clone());
-    let subject = Second::<Plain>::new();
+    let subject = Second::<R>::new();
     let (one, two) =
         (Lent { area: &mut first, length: pair.first_term }, Lent { area: &mut second, length: pair.second_term });
     let reply = subject.compare(one, two, &mut work, pair.fuel);

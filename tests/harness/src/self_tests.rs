@@ -7,9 +7,11 @@ use crate::random::Random;
 use crate::subject::Second;
 use crate::suite::{equal, equal_bytes, shown, Outcome, Suite};
 use crate::terms::{all_of_size, random_of_size, ALL_BELLS, BELLS, NO_BELLS, TWO_BELLS};
+use crate::wrong_batch::Slip;
+use crate::wrong_batches::Batches;
 use crate::{
-    check_tests, compare_tests, count_tests, deep, end_tests, finish_tests, huge, match_tests, program_tests,
-    read_tests, small_tests, step_tests,
+    check_tests, compare_tests, count_tests, deep, end_tests, finish_tests, huge, machine_rules, machine_tests,
+    match_tests, program_tests, read_tests, small_tests, step_tests,
 };
 use second::checking::check;
 use second::finishing::{run, Outcome as End};
@@ -205,10 +207,17 @@ fn two_reducers(suite: &mut Suite) {
     program_tests::predicted_mixing(suite, "fast", fast);
 }
 
+/// The engine of the tests' own that steps in batches: without a slip it replies as the fast reducer does.
+fn batches(suite: &mut Suite) {
+    machine_tests::all(suite, "batches", Batches { slip: Slip::Nothing });
+    machine_rules::made(suite);
+}
+
 pub fn all(suite: &mut Suite) {
     known(suite);
     made(suite);
     two_reducers(suite);
+    batches(suite);
     suite.test("self: the numbers of terms of each size", numbers_of_terms);
     suite.test("self: the runs of the terms of size 3", runs_of_size_3);
     suite.test("self: every step of every term of up to 7 letters", every_small_step);

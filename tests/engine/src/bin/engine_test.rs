@@ -1,17 +1,20 @@
 //! Sets the engine's functions against rows written by hand and against the second implementation.
 //!
 //!   engine_test              every test
-//!   engine_test --bugs       the names of the bugs that can be planted in the engine's replies
-//!   engine_test --bug NAME   every test on the engine with that bug
+//!   engine_test --batches    the long runs alone
+//!   engine_test --bugs       the names of the bugs that can be planted in the engine's replies, and of the slips in
+//!                            an engine of the tests' own that steps in batches
+//!   engine_test --bug NAME   every test on the engine with that bug; the long runs on the one with that slip
 
 use engine::Linked;
 use harness::lent::predict_fast;
 use harness::subject::Controller;
 use harness::suite::Suite;
 use harness::wrong::{bugs, Wrong};
+use harness::wrong_batches::{Batches, SLIPS};
 use harness::{
-    check_tests, compare_tests, count_tests, deep, end_tests, finish_tests, huge, match_tests, read_tests,
-    small_tests, step_tests, threads,
+    check_tests, compare_tests, count_tests, deep, end_tests, finish_tests, huge, machine_tests, match_tests,
+    read_tests, small_tests, step_tests, threads,
 };
 
 /// What was written by hand: quick, and enough to see most of the bugs that are planted.
@@ -54,22 +57,38 @@ fn tests(subject: impl Controller + Sync + Copy) -> i32 {
     huge::all(&mut suite, "engine", subject);
     huge::far(&mut suite, "engine", subject);
     threads::all(&mut suite, "engine", subject);
+    machine_tests::all(&mut suite, "engine", subject);
     suite.end()
+}
+
+/// Long runs alone.
+fn batch_tests(subject: impl Controller + Sync + Copy) -> i32 {
+    let mut suite = Suite::new();
+    machine_tests::all(&mut suite, "engine", subject);
+    suite.end()
+}
+
+/// Every test on the engine with a bug; long runs alone on the one that has a slip in its batches.
+fn with_bug(name: &str) -> i32 {
+    if let Some(&(_, slip)) = SLIPS.iter().find(|slip| slip.0 == name) {
+        return batch_tests(Batches { slip });
+    }
+    let bug = bugs().iter().find(|bug| bug.name == name).expect("a bug of that name");
+    tests(Wrong { subject: Linked, bug })
 }
 
 fn asked() -> i32 {
     let words: Vec<String> = std::env::args().skip(1).collect();
     match words.iter().map(String::as_str).collect::<Vec<_>>()[..] {
         [] => tests(Linked),
+        ["--batches"] => batch_tests(Linked),
         ["--bugs"] => {
-            bugs().iter().for_each(|bug| println!("{}", bug.name));
+            let slips = SLIPS.iter().map(|(name, _)| *name);
+            bugs().iter().map(|bug| bug.name).chain(slips).for_each(|name| println!("{name}"));
             0
         }
-        ["--bug", name] => {
-            let bug = bugs().iter().find(|bug| bug.name == name).expect("a bug of that name");
-            tests(Wrong { subject: Linked, bug })
-        }
-        _ => panic!("usage: engine_test [--bugs | --bug NAME]"),
+        ["--bug", name] => with_bug(name),
+        _ => panic!("usage: engine_test [--batches | --bugs | --bug NAME]"),
     }
 }
 

@@ -1,0 +1,4 @@
+pub mod Packing
+pub mod Keeping
+pub mod Opening
+pub mod Building

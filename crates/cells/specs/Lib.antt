@@ -1,0 +1,4 @@
+pub mod Cell
+pub mod Stands
+pub mod Chain
+pub mod Stage

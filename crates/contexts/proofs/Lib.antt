@@ -1,0 +1,2 @@
+pub mod Plugging
+pub mod Front

@@ -1,0 +1,1 @@
+// No code: the term around a part, as the machine has it, and its next step.

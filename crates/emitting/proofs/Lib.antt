@@ -1,0 +1,5 @@
+mod Listing
+mod Heads
+mod Letter
+mod Frames
+mod Rest

@@ -1,0 +1,3 @@
+pub mod Focusing
+mod States
+mod Turned
