@@ -13,3 +13,4 @@ pub mod BellFree
 pub mod Ranges
 pub mod Counts
 pub mod Steps
+pub mod Standard
