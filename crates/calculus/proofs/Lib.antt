@@ -14,3 +14,4 @@ pub mod Ranges
 pub mod Counts
 pub mod Steps
 pub mod Standard
+pub mod More

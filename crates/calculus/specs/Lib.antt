@@ -11,6 +11,7 @@ pub mod Order
 pub mod Run
 pub mod Counts
 pub mod Steps
+pub mod More
 pub mod Types
 pub mod Typing
 pub mod Derivation
