@@ -15,3 +15,4 @@ pub mod Counts
 pub mod Steps
 pub mod Standard
 pub mod More
+pub mod Found
