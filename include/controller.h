@@ -129,7 +129,8 @@ uint64_t controller_step(uint8_t *area, size_t area_size, size_t term_size, uint
  *   Areas as for controller_step.
  *   Refusals, in this order: CONTROLLER_AREA_TOO_LONG, CONTROLLER_WORK_TOO_SHORT, CONTROLLER_LENGTH_TOO_LONG,
  *   CONTROLLER_FUEL_TOO_HIGH, then those of controller_read.
- *   A spent run is taken up again by another call on the term that it left, of CONTROLLER_SIZE bytes.
+ *   A spent run is taken up again by another call on the term that it left, of CONTROLLER_SIZE bytes; one with
+ *   no room by a call in a larger area. Both then make the steps of one call. docs/COMPOSERS.md says more.
  */
 enum {
     CONTROLLER_FINISHED = 110,       /* the area holds the result */

@@ -13,3 +13,6 @@ pub mod BellFree
 pub mod Ranges
 pub mod Counts
 pub mod Steps
+pub mod Standard
+pub mod More
+pub mod Found

@@ -119,7 +119,7 @@ normal-stop {t} m = go (next t) (says t)
     go (Next.step n u) a = absurd (step-not-normal a m)
 
 -- a rule that applies to the term itself is the next step
-next-rule : {n : ℕ} {t u : Term} → Rule n t u → next t ≡ Next.step n u
+pub next-rule : {n : ℕ} {t u : Term} → Rule n t u → next t ≡ Next.step n u
 next-rule Rule.rule-1 = refl
 next-rule Rule.rule-2 = refl
 next-rule Rule.rule-3 = refl
@@ -135,13 +135,13 @@ next-rule Rule.rule-12 = refl
 next-rule Rule.rule-13 = refl
 
 -- the step of the left part is that of the whole
-next-first :
+pub next-first :
     {n : ℕ} {t′ : Term} (node : Term → Term → Term) (t u : Term) →
     next t ≡ Next.step n t′ → leftmost node t u (next t) (next u) ≡ Next.step n (node t′ u)
 next-first node t u e = ap (λ (x : Next). leftmost node t u x (next u)) e
 
 -- where the left part is normal, the step of the right part is that of the whole
-next-second :
+pub next-second :
     {n : ℕ} {u′ : Term} (node : Term → Term → Term) (t u : Term) →
     Normal t → next u ≡ Next.step n u′ → leftmost node t u (next t) (next u) ≡ Next.step n (node t u′)
 next-second node t u m e = ap (λ (x : Next). leftmost node t u x (next u)) (normal-stop m) ∙ ap (within (node t)) e

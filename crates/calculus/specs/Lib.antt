@@ -11,6 +11,8 @@ pub mod Order
 pub mod Run
 pub mod Counts
 pub mod Steps
+pub mod More
+pub mod Found
 pub mod Types
 pub mod Typing
 pub mod Derivation

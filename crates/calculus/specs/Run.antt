@@ -1,6 +1,6 @@
 -- Runs (REQUIREMENTS, Finishing), as a function and as a relation. `proofs/Runs.antt` shows that they agree.
 -- Before each step three tests, in this order: normal ends the run as finished, no fuel left as spent, a next term over the area as no room.
-use Prim.Native.Nat.{ℕ, zero, suc, _≤_, _<_}
+use Prim.Native.Nat.{ℕ, zero, suc, _≤_, _<_, max}
 use mathlib.Core.Path.{_≡_}
 use mathlib.Core.Bool.{Bool, true, false}
 use mathlib.Core.List.{List, [], _∷_}
@@ -59,6 +59,11 @@ terms t (Run.then n u r) = t ∷ terms u r
 abbrev pub reached : Term → Run → Term
 reached t (Run.end o) = t
 reached t (Run.then n u r) = reached u r
+
+-- the size of the largest term that a run steps to, 0 where it makes no step
+abbrev pub largest : Run → ℕ
+largest (Run.end o) = 0
+largest (Run.then n u r) = max (size u) (largest r)
 
 -- the loop as a relation: `Runs fuel area made t r` says that from t, with that many steps made, r is the rest of the run
 pub data Runs (fuel area : ℕ) : (made : ℕ) → Term → Run → Type 0 where

@@ -1,4 +1,5 @@
--- What a cell says of the term that it stands for: its place, its size, its first letter, and by that letter its parts. Assumes nothing.
+-- What a cell says of the term that it stands for: its place, its size, its first letter, and by that letter its parts; and of the list
+-- that begins at it: its place. Assumes nothing.
 use Prim.Native.Nat.{ℕ, _<_}
 use native.Mathlib.Omega.{arith}
 use mathlib.Core.Path.{_≡_, refl, sym, _∙_, subst}
@@ -9,8 +10,10 @@ use Rattle.calculus.specs.Letter.{Letter, byte}
 use Rattle.calculus.specs.Term.{Term, size}
 use Rattle.calculus.proofs.PrefixCode.{byte-injective}
 use Rattle.calculus.proofs.Heads.{headOf}
+use Rattle.contexts.specs.Frames.{Frame}
 use Rattle.cells.specs.Cell.{letterIn, firstIn, secondIn, sizeIn, Cell}
 use Rattle.cells.specs.Stands.{Stands, Two}
+use Rattle.cells.specs.Chain.{Pending, Chain}
 
 module _ {cells : List ℕ} {top : ℕ} where
   -- a cell that stands for a term is below the top
@@ -49,13 +52,13 @@ module _ {cells : List ℕ} {top : ℕ} where
   -- ---- by its letter
 
   -- the cell of the first part, by what is read from the whole's
-  at-first :
+  pub at-first :
       {i letter x y n : ℕ} {t : Term} → Cell cells top i letter x y n → Stands cells top x t →
       Stands cells top (firstIn (getD cells i 0)) t
   at-first {t = t} c s = subst (λ (k : ℕ). Stands cells top k t) (sym (c .first-is)) s
 
   -- the cell of the second
-  at-second :
+  pub at-second :
       {i letter x y n : ℕ} {t : Term} → Cell cells top i letter x y n → Stands cells top y t →
       Stands cells top (secondIn (getD cells i 0)) t
   at-second {t = t} c s = subst (λ (k : ℕ). Stands cells top k t) (sym (c .second-is)) s
@@ -162,3 +165,16 @@ module _ {cells : List ℕ} {top : ℕ} where
   opened-bell (Stands.B c x y) j r h a i b s = absurd (b (c .lettered))
   opened-bell (Stands.app c x y) j r h a i b s = absurd (s (c .lettered))
   opened-bell (Stands.bell c) j r h a i b s = (_, refl)
+
+  -- ---- the list
+
+  -- the terms behind begin below the top
+  pub pending-inside : {i : ℕ} {terms : List Term} → Pending cells top i terms → i < top
+  pending-inside (Pending.end h k) = h
+  pending-inside (Pending.more c before s rest) = c .inside
+
+  -- so does the list with its frames
+  pub chain-inside : {i : ℕ} {terms : List Term} {frames : List Frame} → Chain cells top terms i frames → i < top
+  chain-inside (Chain.none p) = pending-inside p
+  chain-inside (Chain.argument c before s rest) = c .inside
+  chain-inside (Chain.function c before s rest) = c .inside

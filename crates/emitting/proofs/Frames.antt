@@ -13,9 +13,10 @@ use Rattle.cells.specs.Stands.{Stands, Two}
 use Rattle.cells.specs.Chain.{pendingKind, argumentKind, Chain}
 use Rattle.cells.specs.Stage.{Stage}
 use Rattle.cells.proofs.Keeping.{kept-set, chain-kept}
+use Rattle.cells.proofs.Opening.{chain-inside}
 use Rattle.cells.proofs.Building.{joinable, node-stands}
 use Rattle.emitting.specs.Closing.{Roomy, Closable, Closed}
-use Rattle.emitting.proofs.Listing.{chain-inside, argument-frame, function-frame}
+use Rattle.emitting.proofs.Listing.{argument-frame, function-frame}
 
 -- the cell of the application of the cell x to the cell y
 abbrev appliedCell : (cells : List ℕ) (x y : ℕ) → ℕ

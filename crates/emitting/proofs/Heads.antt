@@ -10,8 +10,7 @@ use Rattle.reading.specs.Arity.{arityOf}
 use Rattle.reading.proofs.Scan.{arity-byte}
 use Rattle.cells.specs.Cell.{letterIn, firstIn, secondIn}
 use Rattle.cells.specs.Stands.{Stands}
-use Rattle.cells.proofs.Opening.{opened-R}
-use Rattle.emitting.proofs.Listing.{at-first, at-second}
+use Rattle.cells.proofs.Opening.{at-first, at-second, opened-R}
 
 -- a text with another number for its first byte
 lettered : (s : List ℕ) {b c : ℕ} → c ≡ b → b ∷ s ≡ c ∷ s

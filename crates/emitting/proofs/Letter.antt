@@ -16,10 +16,10 @@ use Rattle.cells.specs.Stands.{Stands}
 use Rattle.cells.specs.Chain.{pendingKind, Pending, Chain}
 use Rattle.cells.specs.Stage.{Stage, At}
 use Rattle.cells.proofs.Keeping.{kept-set, stands-kept}
-use Rattle.cells.proofs.Opening.{stands-inside}
+use Rattle.cells.proofs.Opening.{stands-inside, pending-inside, chain-inside}
 use Rattle.cells.proofs.Building.{pending-more}
 use Rattle.emitting.specs.Emitting.{Emittable, Emitted}
-use Rattle.emitting.proofs.Listing.{chain-inside, no-frame, pending-inside, pending-kind, none-behind, next-behind}
+use Rattle.emitting.proofs.Listing.{no-frame, pending-kind, none-behind, next-behind}
 use Rattle.emitting.proofs.Heads.{one-part, two-parts, no-part}
 
 module _ {cells : List ℕ} {top cur list : ℕ} {area : List ℕ} {written : ℕ} (given : Emittable cells top cur list area written) where

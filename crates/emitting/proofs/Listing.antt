@@ -9,26 +9,10 @@ use Rattle.contexts.specs.Frames.{Frame}
 use Rattle.cells.specs.Cell.{letterIn, firstIn, secondIn, Cell}
 use Rattle.cells.specs.Stands.{Stands}
 use Rattle.cells.specs.Chain.{pendingKind, argumentKind, Pending, Chain}
+use Rattle.cells.proofs.Opening.{at-first}
 
 module _ {cells : List ℕ} {top : ℕ} where
-  -- the cell of the first part, by what is read from the whole's
-  pub at-first :
-      {i letter x y n : ℕ} {t : Term} → Cell cells top i letter x y n → Stands cells top x t →
-      Stands cells top (firstIn (getD cells i 0)) t
-  at-first {t = t} c s = subst (λ (k : ℕ). Stands cells top k t) (sym (c .first-is)) s
-
-  -- the cell of the second part, likewise
-  pub at-second :
-      {i letter x y n : ℕ} {t : Term} → Cell cells top i letter x y n → Stands cells top y t →
-      Stands cells top (secondIn (getD cells i 0)) t
-  at-second {t = t} c s = subst (λ (k : ℕ). Stands cells top k t) (sym (c .second-is)) s
-
   -- ---- the terms behind
-
-  -- the terms behind begin below the top
-  pub pending-inside : {i : ℕ} {terms : List Term} → Pending cells top i terms → i < top
-  pending-inside (Pending.end h k) = h
-  pending-inside (Pending.more c before s rest) = c .inside
 
   -- their first cell has their kind
   pub pending-kind : {i : ℕ} {terms : List Term} → Pending cells top i terms → letterIn (getD cells i 0) ≡ pendingKind
@@ -52,13 +36,7 @@ module _ {cells : List ℕ} {top : ℕ} where
   -- ---- the frames
 
   module _ {terms : List Term} where
-    -- the list begins below the top
-    pub chain-inside : {i : ℕ} {frames : List Frame} → Chain cells top terms i frames → i < top
-    chain-inside (Chain.none p) = pending-inside p
-    chain-inside (Chain.argument c before s rest) = c .inside
-    chain-inside (Chain.function c before s rest) = c .inside
-
-    -- where its first cell has the kind of the terms behind, there is no frame
+    -- where the list's first cell has the kind of the terms behind, there is no frame
     pub no-frame :
         {i : ℕ} {frames : List Frame} → Chain cells top terms i frames → letterIn (getD cells i 0) ≡ pendingKind →
         (frames ≡ []) × Pending cells top i terms

@@ -2,7 +2,7 @@
 use Prim.Native.Nat.{ℕ, zero, suc, _+_, _*_, _-_, _≤_, _<_}
 use native.Mathlib.Omega.{arith}
 use mathlib.Core.Path.{_≡_, refl, sym, _∙_, ap, subst}
-use mathlib.Core.Bool.{Bool, true, false, false≢true}
+use mathlib.Core.Bool.{Bool, true, false}
 use mathlib.Core.List.{List, [], _∷_}
 use lib.ListN.{length, getD, take, length-take}
 use Rattle.calculus.specs.Term.{Term, text, size}
@@ -12,6 +12,7 @@ use Rattle.contexts.proofs.Front.{front-before}
 use Rattle.cells.specs.Cell.{cellLimit, letterIn}
 use Rattle.cells.specs.Chain.{pendingKind}
 use Rattle.cells.specs.Stage.{Stage, At}
+use Rattle.cells.proofs.Staging.{part-left, none-left}
 use Rattle.emitting.specs.Emitting.{Emittable, Emitted, Unloadable}
 use Rattle.emitting.specs.Closing.{Roomy, Closable, Closed}
 
@@ -113,20 +114,6 @@ module _
         few = omega (arith, given .few, long);
         room = omega (arith, roomy .room, front, same);
       }
-
--- where it is told that a part is left, the machine is in the term
-part-left :
-    {cells : List ℕ} {top cur list : ℕ} {front : List ℕ} {t : Term} {left : Bool} → At cells top cur list front t left → left ≡ true →
-    Stage cells top cur list front t
-part-left (At.part s) e = s
-part-left (At.end k) e = absurd (false≢true e)
-
--- where it is told that none is left, the whole text stands in front
-none-left :
-    {cells : List ℕ} {top cur list : ℕ} {front : List ℕ} {t : Term} {left : Bool} → At cells top cur list front t left → left ≡ false →
-    text t ≡ front
-none-left (At.part s) e = absurd (false≢true (sym e))
-none-left (At.end k) e = k
 
 module _
     {cells₀ : List ℕ} {top₀ cur₀ list₀ : ℕ} {front₀ : List ℕ}

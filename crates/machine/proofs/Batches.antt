@@ -2,7 +2,7 @@
 use Prim.Native.Nat.{ℕ, _+_, _/_, _≤_, min}
 use native.Mathlib.Omega.{arith}
 use mathlib.Core.Path.{_≡_, refl, sym, _∙_, ap, subst}
-use mathlib.Core.Bool.{Bool, true, false}
+use mathlib.Core.Bool.{true, false}
 use mathlib.Core.List.{List, [], append-nil}
 use lib.ListN.{length, getD, set, take, length-set}
 use lib.Seq.{length-take-le, getD-set-same}
@@ -15,13 +15,13 @@ use Rattle.cells.specs.Cell.{letterIn, Kept}
 use Rattle.cells.specs.Stands.{Stands}
 use Rattle.cells.specs.Chain.{Pending, Chain}
 use Rattle.cells.specs.Stage.{Stage, At}
+use Rattle.cells.proofs.Staging.{part-left, none-left}
 use Rattle.loading.specs.Loading.{Loadable}
 use Rattle.emitting.specs.Emitting.{Unloadable}
 use Rattle.turning.specs.Running.{Bounds}
 use Rattle.turning.specs.Turning.{Runs, Turnable, start}
 use Rattle.machine.specs.Advancing.{Runnable, Usable, Advanced, madeOf, Startable, Stopped}
 use Rattle.turning.specs.declared.State.{State}
-use Rattle.turning.proofs.Focusing.{stage-left}
 
 -- an arena of the same length will do as well
 pub usable-same :
@@ -187,7 +187,7 @@ module _ {area : List ℕ} {len : ℕ} {counts : List ℕ} {most : ℕ} (p : Run
           module _ (more : st .place .left ≡ true) where
             -- the part in focus
             left-stage : Stage cells″ (st .place .top) (st .place .cur) (st .place .list) (take (st .place .written) area′) reached
-            left-stage = stage-left more (run .at)
+            left-stage = part-left (run .at) more
 
             -- the term can be written back
             pub unloadable :
@@ -213,14 +213,8 @@ module _ {area : List ℕ} {len : ℕ} {counts : List ℕ} {most : ℕ} (p : Run
           -- no part is left: the record is right
           pub advanced-end :
               st .place .left ≡ false → Advanced area (p .term) (p .used) most area′ counts′ (madeOf st most)
-          advanced-end none = advanced area′ (go (st .place .left) none (run .at))
-            where
-              go :
-                  (left : Bool) → left ≡ false →
-                  At cells″ (st .place .top) (st .place .cur) (st .place .list) (take (st .place .written) area′) reached left →
-                  take (size reached) area′ ≡ text reached
-              go true e at = let z : _≡_ {A = ℕ} 0 1 = cc e in absurd (omega arith)
-              go false e (At.end spelt) =
-                  let long : st .place .written ≡ size reached =
-                  sym (length-take-le (st .place .written) area′ (run .inside)) ∙ ap length (sym spelt) ∙ length-text reached in
-                  ap (λ (n : ℕ). take n area′) (sym long) ∙ sym spelt
+          advanced-end none =
+              let spelt = none-left (run .at) none in
+              let long : st .place .written ≡ size reached =
+              sym (length-take-le (st .place .written) area′ (run .inside)) ∙ ap length (sym spelt) ∙ length-text reached in
+              advanced area′ (ap (λ (n : ℕ). take n area′) (sym long) ∙ sym spelt)

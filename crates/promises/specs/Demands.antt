@@ -1,7 +1,7 @@
 -- The three demands (REQUIREMENTS, Demands), stated over the definitions that the public operations promise to equal, and over the relations
 -- that those definitions are shown to agree with. `demands` of proofs/Demands.antt is the proof.
 -- That a call ends, does nothing undefined, and that its reply and every lent byte are those of these definitions, for every input, is what the
--- contract of each operation says; none has a `requires`.
+-- contract of each operation says; none has a `requires`. That no result is overlooked stands beside them, in specs/Results.antt.
 use Prim.Native.Nat.{ℕ, _≤_, _<_, min}
 use mathlib.Core.Path.{_≡_}
 use mathlib.Core.Bool.{true}

@@ -1,5 +1,5 @@
--- The proved examples (REQUIREMENTS, Examples), twelve of the base, nine with bells and seven with counts, as rows of one table over the
--- operations' definitions.
+-- The proved examples (REQUIREMENTS, Examples), twelve of the base, nine with bells, seven with counts and four on results, as rows of one table
+-- over the operations' definitions.
 -- proofs/Examples.antt has the proof that covers it. Every expected reply was written by hand from the paper; the rules of examples 1 and 3 to 8, which it does not give, were
 -- worked out by hand from figure 1.
 use Prim.Native.Nat.{ℕ, _-_}
@@ -83,6 +83,10 @@ rows =
     mixes "J" 0 1 52 (0 ∷ 0 ∷ 0 ∷ 0 ∷ 0 ∷ 0 ∷ 0 ∷ 0 ∷ 0 ∷ 0 ∷ 0 ∷ 0 ∷ 0 ∷ []) ∷
     Row.row (Call.finish-counted "J" 1_000_001 1 51) (Answer.refused 2 0) ∷
     Row.row (Call.finish-counted "J" 1_000_001 1 52) (Answer.refused 4 0) ∷
+    runs ".B.IIIHJJ" 6 15 Outcome.finished 6 (8 ∷ 6 ∷ 5 ∷ 5 ∷ 6 ∷ 5 ∷ []) "I" ∷
+    runs ".B.IIIHJJ" 5 15 Outcome.spent 5 (8 ∷ 6 ∷ 5 ∷ 5 ∷ 6 ∷ []) ".II" ∷
+    runs ".B.IIIHJJ" 6 14 Outcome.no-room 0 [] ".B.IIIHJJ" ∷
+    runs ".AIHJJAIHJJ" 3 ample-area Outcome.spent 3 (4 ∷ 8 ∷ 6 ∷ []) ".AIHJJ.BAIHJJIJ" ∷
     []
 
 -- an area of that size with the term at its start

@@ -15,21 +15,14 @@ use Rattle.contexts.proofs.Front.{front-before}
 use Rattle.cells.specs.Cell.{letterIn, firstIn, secondIn, packed, Free}
 use Rattle.cells.specs.Stands.{Stands, Two}
 use Rattle.cells.specs.Chain.{pendingKind, argumentKind, functionKind, Pending, Chain}
-use Rattle.cells.specs.Stage.{Stage, At}
+use Rattle.cells.specs.Stage.{Stage}
 use Rattle.cells.proofs.Keeping.{kept-set, stands-kept}
-use Rattle.cells.proofs.Opening.{opened-two}
+use Rattle.cells.proofs.Opening.{chain-inside, at-first, opened-two}
 use Rattle.cells.proofs.Building.{chain-argument, chain-function}
 use Rattle.turning.specs.Running.{Focused}
 use Rattle.turning.specs.Turning.{Both}
 
 -- ---- the part in focus
-
--- the part that is left
-pub stage-left :
-    {cells : List ℕ} {top cur list : ℕ} {front : List ℕ} {t : Term} {left : Bool} → left ≡ true → At cells top cur list front t left →
-    Stage cells top cur list front t
-stage-left e (At.part stage) = stage
-stage-left e (At.end spelt) = let z : _≡_ {A = ℕ} 0 1 = cc e in absurd (omega arith)
 
 module _ {cells : List ℕ} {top cur list : ℕ} {front : List ℕ} {t : Term} (stage : Stage cells top cur list front t) where
   -- more letters are left than stand in front
@@ -37,17 +30,6 @@ module _ {cells : List ℕ} {top cur list : ℕ} {front : List ℕ} {t : Term} (
   stage-before =
       let b = front-before t front (stage .focus) (stage .frames) (texts (stage .pending)) (stage .spelt) in
       omega (arith, b, size-positive (stage .focus))
-
--- the first cell of the terms behind is in the arena
-pending-inside : {cells : List ℕ} {top i : ℕ} {terms : List Term} → Pending cells top i terms → i < top
-pending-inside (Pending.end h k) = h
-pending-inside (Pending.more c before s rest) = c .inside
-
--- so is the list's
-pub chain-inside : {cells : List ℕ} {top i : ℕ} {terms : List Term} {frames : List Frame} → Chain cells top terms i frames → i < top
-chain-inside (Chain.none p) = pending-inside p
-chain-inside (Chain.argument c before s rest) = c .inside
-chain-inside (Chain.function c before s rest) = c .inside
 
 -- the same cells, by other names
 pub focused-by :
@@ -98,7 +80,7 @@ focus-argument {cells} {top} {cur} {list} {front} {t} stage e = go (stage .frame
           frames = frames;
           pending = stage .pending;
           function-stands = stage .stands;
-          argument-stands = subst (λ (i : ℕ). Stands cells top i a) (sym (c .first-is)) s;
+          argument-stands = at-first c s;
           chain = subst (λ (i : ℕ). Chain cells top (stage .pending) i frames) (sym (c .second-is)) rest;
           spelt = spelt;
         }
@@ -127,7 +109,7 @@ focus-function {cells} {top} {cur} {list} {front} {t} stage n m = go (stage .fra
           argument = stage .focus;
           frames = frames;
           pending = stage .pending;
-          function-stands = subst (λ (i : ℕ). Stands cells top i (Term.B u s)) (sym (c .first-is)) p;
+          function-stands = at-first c p;
           argument-stands = stage .stands;
           chain = subst (λ (i : ℕ). Chain cells top (stage .pending) i frames) (sym (c .second-is)) rest;
           spelt = spelt;

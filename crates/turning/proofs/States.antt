@@ -23,11 +23,12 @@ use Rattle.cells.specs.Cell.{letterIn, sizeIn, Free}
 use Rattle.cells.specs.Stage.{Stage, At}
 use Rattle.cells.proofs.Keeping.{chain-kept}
 use Rattle.cells.proofs.Opening.{stands-size}
+use Rattle.cells.proofs.Staging.{part-left}
 use Rattle.contracting.specs.Contracting.{Contractible, Contracts}
 use Rattle.emitting.specs.Emitting.{Emitted}
 use Rattle.tallies.specs.Tallies.{Countable, bumped}
 use Rattle.turning.specs.Running.{Running, Bounds, Focused}
-use Rattle.turning.proofs.Focusing.{stage-left, stage-before}
+use Rattle.turning.proofs.Focusing.{stage-before}
 
 module _
     {room : ℕ} {first : Term} {used : List ℕ} {most : ℕ} {cells area counts : List ℕ} {top cur list written : ℕ} {left : Bool}
@@ -81,7 +82,7 @@ module _
     module _ (bounds : Bounds room first used most cells area) (free : top + 3 ≤ length cells) (more : left ≡ true) where
       -- the part in focus
       pub stage : Stage cells top cur list (take written area) (run .term)
-      stage = stage-left more (run .at)
+      stage = part-left (run .at) more
 
       -- the term reached has room
       pub term-fits : size (run .term) ≤ room

@@ -12,7 +12,7 @@ use Rattle.cells.specs.Cell.{letterIn, sizeIn, packed, Kept, Free}
 use Rattle.cells.specs.Chain.{pendingKind, argumentKind, functionKind}
 use Rattle.cells.specs.Stage.{Stage}
 use Rattle.cells.proofs.Keeping.{stage-kept}
-use Rattle.cells.proofs.Opening.{stands-inside}
+use Rattle.cells.proofs.Opening.{stands-inside, chain-inside}
 use Rattle.contracting.specs.Contracting.{Redex, Contractible, Contracts}
 use Rattle.emitting.specs.Emitting.{Emittable, Emitted}
 use Rattle.tallies.specs.Tallies.{Countable, bumped}
@@ -20,7 +20,7 @@ use Rattle.turning.specs.Running.{Running, Focused}
 use Rattle.turning.specs.Turning.{Focusable, Turnable, Appliable, Fireable, Turned, TurnedFrom, halt, descended, stepped}
 use Rattle.turning.specs.declared.State.{State}
 use Rattle.turning.specs.declared.Focus.{Focus}
-use Rattle.turning.proofs.Focusing.{chain-inside, into-function, into-argument}
+use Rattle.turning.proofs.Focusing.{into-function, into-argument}
 use Rattle.turning.proofs.States as states
 
 -- another turn counts as one

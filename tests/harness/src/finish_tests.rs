@@ -10,7 +10,8 @@ use crate::suite::{equal, shown, Outcome, Suite};
 use crate::table::finishing::{examples, long_rows, refused_rows, rows, RefusedRow, Row};
 use crate::terms::{random_of_size, texts_of_size, twice_nested, LETTERS, NO_BELLS};
 
-fn by_hand(subject: &dyn Controller, row: &Row) -> Outcome {
+/// Demands what a row says, and every lent byte.
+pub fn by_hand(subject: &dyn Controller, row: &Row) -> Outcome {
     let mut area = row.term.clone();
     area.resize(row.area, b'#');
     let call = Call { term: row.term.len(), work: vec![b'w'; area.len() + 2], area };

@@ -23,6 +23,7 @@ pub mod program_tests;
 pub mod random;
 pub mod read_tests;
 pub mod reply;
+pub mod result_tests;
 pub mod runs;
 pub mod self_tests;
 pub mod small_tests;

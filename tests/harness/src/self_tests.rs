@@ -11,8 +11,9 @@ use crate::wrong_batch::Slip;
 use crate::wrong_batches::Batches;
 use crate::{
     check_tests, compare_tests, count_tests, deep, end_tests, finish_tests, huge, machine_rules, machine_tests,
-    match_tests, program_tests, read_tests, small_tests, step_tests,
+    match_tests, program_tests, read_tests, result_tests, small_tests, step_tests,
 };
+use second::anywhere::{nearest_normal, successors, Nearest};
 use second::checking::check;
 use second::finishing::{run, Outcome as End};
 use second::machine::Machine;
@@ -20,7 +21,7 @@ use second::order::{next_place, part_at};
 use second::plain::{rewrite_at, Plain};
 use second::rules::growth;
 use second::stepping::{Next, Reducer};
-use second::term::Term;
+use second::term::{parse, Term};
 
 /// How many terms there are of each size, reckoned by hand: one letter takes a term, four letters take two.
 fn numbers_of_terms() -> Outcome {
@@ -98,23 +99,39 @@ fn joined_terms() -> Outcome {
     equal("more than 2,000 pairs were decided", decided > 2_000, true)
 }
 
-/// Rules used in any order, where they lead to a normal term, lead to the result of the order.
-fn any_order() -> Outcome {
-    let mut random = Random::new(62);
-    for _ in 0..2_000 {
-        let size = random.between(3, 20);
-        let start = random_of_size(&mut random, size);
-        let mut other = start.clone();
-        let mut left = 60;
-        while left > 0 && other.size() < 500 && forwards(&mut random, &mut other) {
-            left -= 1;
-        }
-        if other.is_normal() {
-            let found = result(&start).ok_or_else(|| format!("{} does not finish", shown(&start.text())))?;
-            equal_bytes(&shown(&start.text()), &found, &other.text())?;
-        }
-    }
-    Ok(())
+/// The term of this text.
+fn term(text: &[u8]) -> Term {
+    parse(text).expect("the text of a term")
+}
+
+/// The order takes neither the fewest uses of rules nor the least room.
+fn not_the_fewest() -> Outcome {
+    let start = term(b".B.IIIHJJ");
+    let nearest = || Some(Nearest { term: Term::I, changes: 5 });
+    equal("over terms of any size", nearest_normal(&start, 100, 1_000), nearest())?;
+    equal("over terms of up to 11 letters", nearest_normal(&start, 11, 1_000), nearest())?;
+    equal("over terms of up to 10 letters", nearest_normal(&start, 10, 1_000), None)?;
+    equal("by the order", run(&mut Plain { term: start.clone() }, 15, 100, |_| ()), (End::Finished, 6))?;
+    equal("by the order in 14 letters", run(&mut Plain { term: start }, 14, 100, |_| ()), (End::NoRoom, 0))
+}
+
+/// Example 8 has a result that changes at the leftmost full stop that a rule fits never come to.
+fn leftmost_never_ends() -> Outcome {
+    let start = term(b".B.AIHJJAIHJJI.II");
+    let leftmost = |term: &Term| successors(term).into_iter().next();
+    let changed = std::iter::successors(Some(start.clone()), leftmost).take(1_001);
+    equal("terms that are not normal", changed.filter(|term| !term.is_normal()).count(), 1_001)?;
+    equal("by the order", run(&mut Plain { term: start.clone() }, 17, 100, |_| ()), (End::Finished, 2))?;
+    equal("in any order", nearest_normal(&start, 100, 1_000), Some(Nearest { term: Term::I, changes: 2 }))
+}
+
+/// The search makes a term of each full stop that a rule fits, and of no other.
+fn every_use_of_a_rule() -> Outcome {
+    let start = term(b"HA.IJ.IRJB.BJI1R.1.JT");
+    let texts = ["HAJ.IRJB.BJI1R.1.JT", "HA.IJRJB.BJI1R.1.JT", "HA.IJ.IRJB1R.1.JT"];
+    let texts = [&texts[..], &["HA.IJ.IRJB.BJI1RH1.JT", "HA.IJ.IRJB.BJI1R.1HJT"]].concat();
+    let wanted: Vec<Term> = texts.into_iter().map(|text| term(text.as_bytes())).collect();
+    equal("made by one use of a rule", successors(&start), wanted)
 }
 
 /// Every step keeps what the claim says: its context and its type.
@@ -166,6 +183,8 @@ fn known(suite: &mut Suite) {
     step_tests::known(suite, "fast", fast);
     finish_tests::known(suite, "plain", plain);
     finish_tests::known(suite, "fast", fast);
+    result_tests::known(suite, "plain", plain);
+    result_tests::known(suite, "fast", fast);
     count_tests::known(suite, "plain", plain);
     count_tests::known(suite, "fast", fast);
     compare_tests::known(suite, "plain", plain);
@@ -188,6 +207,8 @@ fn made(suite: &mut Suite) {
     match_tests::made(suite, "second", plain);
     finish_tests::made(suite, "plain", plain);
     finish_tests::made(suite, "fast", fast);
+    result_tests::made(suite, "plain", plain);
+    result_tests::made(suite, "fast", fast);
 }
 
 /// The fast reducer against the plain one.
@@ -196,6 +217,7 @@ fn two_reducers(suite: &mut Suite) {
     step_tests::predicted(suite, "fast", fast);
     end_tests::predicted(suite, "fast", fast, 1, predict_plain);
     finish_tests::predicted(suite, "fast", fast);
+    result_tests::predicted(suite, "fast", fast);
     count_tests::predicted(suite, "fast", fast);
     small_tests::predicted(suite, "fast", fast);
     finish_tests::long(suite, "plain", Second::<Plain>::new(), finish_tests::THOUSANDS_OF_STEPS);
@@ -213,8 +235,16 @@ fn batches(suite: &mut Suite) {
     machine_rules::made(suite);
 }
 
+/// What the search in every order finds for the terms that tell the order from others.
+fn other_orders(suite: &mut Suite) {
+    suite.test("self: one use of a rule, at each full stop that one fits", every_use_of_a_rule);
+    suite.test("self: .B.IIIHJJ has a shorter way than the order's", not_the_fewest);
+    suite.test("self: .B.AIHJJAIHJJI.II has no result at the leftmost full stop", leftmost_never_ends);
+}
+
 pub fn all(suite: &mut Suite) {
     known(suite);
+    other_orders(suite);
     made(suite);
     two_reducers(suite);
     batches(suite);
@@ -222,7 +252,6 @@ pub fn all(suite: &mut Suite) {
     suite.test("self: the runs of the terms of size 3", runs_of_size_3);
     suite.test("self: every step of every term of up to 7 letters", every_small_step);
     suite.test("self: terms joined by changes have one result", joined_terms);
-    suite.test("self: rules in any order lead to one result", any_order);
     suite.test("self: typed terms keep their type", types_are_kept);
     suite.test("self: generated derivations use every rule and every bell", rules_of_derivations);
 }

@@ -6,7 +6,7 @@ use crate::wrong_ends::{self, Damage};
 use second::comparing::Lent;
 use std::sync::atomic::{AtomicU64, Ordering};
 
-/// What is lent to a counted call, with its term's size and its fuel.
+/// What is lent to a call that finishes, with its term's size and its fuel; no counts where it counts none.
 pub struct Lending<'a> {
     area: &'a mut [u8],
     term: usize,
@@ -20,6 +20,11 @@ fn count(subject: &dyn Controller, lent: Lending) -> u64 {
     subject.finish_counted(lent.area, lent.term, lent.work, lent.fuel, lent.counts)
 }
 
+/// What a subject replies to a call of finishing.
+fn finish(subject: &dyn Controller, lent: Lending) -> u64 {
+    subject.finish(lent.area, lent.term, lent.work, lent.fuel)
+}
+
 pub struct Bug {
     pub name: &'static str,
     /// What becomes of a reply.
@@ -30,6 +35,8 @@ pub struct Bug {
     bytes: fn(u64, &mut [u8], &mut [u8]),
     /// What becomes of the reply to bytes that are read or checked.
     read: fn(&[u8], u64) -> u64,
+    /// What a call of finishing comes to.
+    finish: fn(&dyn Controller, Lending) -> u64,
     /// What a counted call comes to.
     count: fn(&dyn Controller, Lending) -> u64,
     /// What becomes of the counts of an answer, by the reply and the bytes that stood there before.
@@ -43,6 +50,7 @@ const NONE: Bug = Bug {
     ends: None,
     bytes: kept,
     read: |_, reply| reply,
+    finish,
     count,
     stored: |_, _, _| (),
 };
@@ -63,6 +71,10 @@ const fn leaves(name: &'static str, bytes: fn(u64, &mut [u8], &mut [u8])) -> Bug
 
 const fn reads(name: &'static str, read: fn(&[u8], u64) -> u64) -> Bug {
     Bug { name, read, ..NONE }
+}
+
+const fn finishes(name: &'static str, finish: fn(&dyn Controller, Lending) -> u64) -> Bug {
+    Bug { name, finish, ..NONE }
 }
 
 const fn counts(name: &'static str, count: fn(&dyn Controller, Lending) -> u64) -> Bug {
@@ -148,6 +160,64 @@ fn byte_behind_the_area(reply: u64, area: &mut [u8], _: &mut [u8]) {
     }
 }
 
+/// The run that less fuel and area give, where the call is not refused.
+fn given_less(subject: &dyn Controller, lent: Lending, fuel: u64, area: usize) -> u64 {
+    let (mut copy, mut copied_work) = (lent.area.to_vec(), lent.work.to_vec());
+    let reply = subject.finish(lent.area, lent.term, lent.work, lent.fuel);
+    if is_refusal(reply) {
+        return reply;
+    }
+    lent.area.fill(0);
+    let reply = subject.finish(&mut copy[..area], lent.term, &mut copied_work, fuel);
+    lent.area[..area].copy_from_slice(&copy[..area]);
+    reply
+}
+
+fn given_up_after_300_steps(subject: &dyn Controller, lent: Lending) -> u64 {
+    let (fuel, area) = (lent.fuel.min(300), lent.area.len());
+    given_less(subject, lent, fuel, area)
+}
+
+fn given_up_where_it_grows(subject: &dyn Controller, lent: Lending) -> u64 {
+    let (fuel, area) = (lent.fuel, lent.area.len().min(lent.term.saturating_mul(8)));
+    given_less(subject, lent, fuel, area)
+}
+
+fn last_byte_never_used(subject: &dyn Controller, lent: Lending) -> u64 {
+    let (fuel, area) = (lent.fuel, lent.area.len().saturating_sub(1).max(lent.term));
+    given_less(subject, lent, fuel, area)
+}
+
+/// Room is asked for ahead of fuel.
+fn no_room_for_spent(subject: &dyn Controller, lent: Lending) -> u64 {
+    let Lending { area, term, work, fuel, .. } = lent;
+    let reply = subject.finish(area, term, work, fuel);
+    let next = |size| code(subject.step(&mut area.to_vec(), size, &mut work.to_vec()));
+    match code(reply) == SPENT && next(size(reply)) == STEP_NO_ROOM {
+        true => exchanged(reply, SPENT, NO_ROOM),
+        false => reply,
+    }
+}
+
+fn step_more_where_fuel_is_left(subject: &dyn Controller, lent: Lending) -> u64 {
+    let fuel = lent.fuel;
+    let reply = finish(subject, lent);
+    match code(reply) == FINISHED && value(reply) < fuel && value(reply) > 0 {
+        true => reply + ONE,
+        false => reply,
+    }
+}
+
+/// Fuel is asked for ahead of a normal term.
+fn spent_with_the_last_step(subject: &dyn Controller, lent: Lending) -> u64 {
+    let fuel = lent.fuel;
+    let reply = finish(subject, lent);
+    match value(reply) == fuel {
+        true => exchanged(reply, FINISHED, SPENT),
+        false => reply,
+    }
+}
+
 /// The bytes of thirteen counts.
 const COUNTS: usize = 52;
 
@@ -226,7 +296,7 @@ fn counts_left_without_room(reply: u64, before: &[u8], counts: &mut [u8]) {
     }
 }
 
-static BUGS: [Bug; 40] = [
+static BUGS: [Bug; 46] = [
     replies("5 one place too far", |reply| changed(reply, &[5], |reply| reply + ONE)),
     replies("places of 24 bits", |reply| changed(reply, &[5, 6, 7], |reply| reply & 0xffff_ffff)),
     replies("a size read of 24 bits", |reply| changed(reply, &[WHOLE], |reply| reply & 0xffff_ffff)),
@@ -263,6 +333,12 @@ static BUGS: [Bug; 40] = [
     leaves("bell eleven written as bell twelve", bell_eleven_written_as_twelve),
     reads("bell ten refused by reading", bell_ten_refused),
     reads("K an unknown rule", unknown_rule_k),
+    finishes("a run given up after 300 steps", given_up_after_300_steps),
+    finishes("a run given up where its term outgrows eight times its size", given_up_where_it_grows),
+    finishes("the last byte of the area never used for a term", last_byte_never_used),
+    finishes("no room told where the fuel is short too", no_room_for_spent),
+    finishes("a step more counted where fuel is left", step_more_where_fuel_is_left),
+    finishes("a result that takes all fuel called spent", spent_with_the_last_step),
     counts("the last step alone counted", last_step_counted),
     counts("a refused call clears the counts", counts_cleared_by_a_refusal),
     counts("a short buffer for the counts refused last", short_counts_refused_last),
@@ -304,7 +380,8 @@ impl<C: Controller> Controller for Wrong<C> {
     }
 
     fn finish(&self, area: &mut [u8], term: usize, work: &mut [u8], fuel: u64) -> u64 {
-        let reply = self.subject.finish(area, term, work, fuel);
+        let lent = Lending { area: &mut *area, term, work: &mut *work, fuel, counts: &mut [] };
+        let reply = (self.bug.finish)(&self.subject, lent);
         (self.bug.bytes)(reply, area, work);
         (self.bug.reply)(reply)
     }

@@ -4,6 +4,7 @@
 //! run it on a deep stack (`on_deep_stack`). The engine works on bytes in place,
 //! so the two have little in common beyond the text that they follow.
 
+pub mod anywhere;
 pub mod bell;
 pub mod checking;
 pub mod comparing;

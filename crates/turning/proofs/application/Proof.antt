@@ -2,8 +2,8 @@
 use native.Mathlib.Omega.{arith}
 use mathlib.Core.Path.{refl, sym, _∙_}
 use borrow.Author.Needs.{needs}
-use Rattle.cells.proofs.Opening.{stands-inside}
-use Rattle.turning.proofs.Focusing.{chain-inside, focused-by, focus-here, focus-argument, focus-function}
+use Rattle.cells.proofs.Opening.{stands-inside, chain-inside}
+use Rattle.turning.proofs.Focusing.{focused-by, focus-here, focus-argument, focus-function}
 use Rattle.turning.proofs.application.Statement.{statement}
 use Rattle.turning.proofs.application.Tie as tie
 

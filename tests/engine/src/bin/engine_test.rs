@@ -14,7 +14,7 @@ use harness::wrong::{bugs, Wrong};
 use harness::wrong_batches::{Batches, SLIPS};
 use harness::{
     check_tests, compare_tests, count_tests, deep, end_tests, finish_tests, huge, machine_tests, match_tests,
-    read_tests, small_tests, step_tests, threads,
+    read_tests, result_tests, small_tests, step_tests, threads,
 };
 
 /// What was written by hand: quick, and enough to see most of the bugs that are planted.
@@ -22,6 +22,7 @@ fn known(suite: &mut Suite, subject: impl Controller + Copy) {
     read_tests::known(suite, "engine", subject);
     step_tests::known(suite, "engine", subject);
     finish_tests::known(suite, "engine", subject);
+    result_tests::known(suite, "engine", subject);
     count_tests::known(suite, "engine", subject);
     compare_tests::known(suite, "engine", subject);
     check_tests::known(suite, "engine", subject);
@@ -31,6 +32,7 @@ fn known(suite: &mut Suite, subject: impl Controller + Copy) {
     match_tests::made(suite, "engine", subject);
     count_tests::made(suite, "engine", subject);
     finish_tests::made(suite, "engine", subject);
+    result_tests::made(suite, "engine", subject);
 }
 
 /// What the second implementation predicts.
@@ -39,6 +41,7 @@ fn predicted(suite: &mut Suite, subject: impl Controller + Copy) {
     step_tests::predicted(suite, "engine", subject);
     end_tests::predicted(suite, "engine", subject, end_tests::WAYS, predict_fast);
     finish_tests::predicted(suite, "engine", subject);
+    result_tests::predicted(suite, "engine", subject);
     small_tests::predicted(suite, "engine", subject);
     small_tests::largest(suite, "engine", subject);
     finish_tests::long(suite, "engine", subject, finish_tests::MILLION_STEPS);

@@ -118,6 +118,59 @@ fn ends_of_bells() -> Vec<Row> {
     ]
 }
 
+/// Runs that find a result by the order, where another order takes less or finds none.
+pub fn results() -> Vec<Row> {
+    [not_the_fewest(), beside_no_end()].into_iter().flatten().collect()
+}
+
+/// Rules 8, 6, 5, 5, 6, 5, with room for 15 letters; by rules 5, 8, 6, 5, 6, the `.II` first, eleven are enough.
+fn not_the_fewest() -> Vec<Row> {
+    let finished = |area, fuel| row(".B.IIIHJJ", area, fuel, "finished 6", "I");
+    let no_room = |area, fuel| row(".B.IIIHJJ", area, fuel, "no room 0", ".B.IIIHJJ");
+    vec![
+        finished(15, 6),
+        finished(15, 7),
+        finished(16, 6),
+        finished(15, 1_000_000),
+        finished(16_384, 6),
+        finished(16_384, 1_000_000),
+        row(".B.IIIHJJ", 15, 5, "spent 5", ".II"),
+        row(".B.IIIHJJ", 16, 5, "spent 5", ".II"),
+        row(".B.IIIHJJ", 16_384, 5, "spent 5", ".II"),
+        row(".B.IIIHJJ", 15, 4, "spent 4", ".B.IIIJ"),
+        row(".B.IIIHJJ", 15, 3, "spent 3", ".I.B.IIIJ"),
+        row(".B.IIIHJJ", 15, 2, "spent 2", "..II.B.IIIJ"),
+        row(".B.IIIHJJ", 15, 1, "spent 1", "..B.IIIJ.B.IIIJ"),
+        row(".B.IIIHJJ", 15, 0, "spent 0", ".B.IIIHJJ"),
+        row(".B.IIIHJJ", 9, 0, "spent 0", ".B.IIIHJJ"),
+        no_room(14, 1),
+        no_room(14, 5),
+        no_room(14, 6),
+        no_room(14, 1_000_000),
+        no_room(11, 5),
+        no_room(9, 1),
+        // What the other order has after its first change: rules 8, 6, 5, 6.
+        row(".BIIHJJ", 11, 4, "finished 4", "I"),
+        row(".BIIHJJ", 11, 3, "spent 3", ".BIIJ"),
+        row(".BIIHJJ", 10, 4, "no room 0", ".BIIHJJ"),
+    ]
+}
+
+/// Example 8, by rules 5 and 10: a part that has no result is dropped.
+fn beside_no_end() -> Vec<Row> {
+    let example = ".B.AIHJJAIHJJI.II";
+    vec![
+        row(example, 17, 2, "finished 2", "I"),
+        row(example, 17, 1_000_000, "finished 2", "I"),
+        row(example, 16_384, 2, "finished 2", "I"),
+        row(example, 16_384, 1_000_000, "finished 2", "I"),
+        row(example, 17, 1, "spent 1", ".B.AIHJJAIHJJII"),
+        row(example, 16_384, 1, "spent 1", ".B.AIHJJAIHJJII"),
+        row(example, 17, 0, "spent 0", example),
+        row(example, 16, 2, "3@0", ""),
+    ]
+}
+
 /// A call that is refused: area, length, size of the work area, fuel and `number@place`.
 pub struct RefusedRow {
     pub name: &'static str,
@@ -189,6 +242,34 @@ pub fn self_application_without_room(cycles: usize) -> Row {
         reply: format!("no room {steps}"),
         after: joined(&[b".B", &nested_look_up(cycles - 1), b"IHJJ"]),
         ..before
+    }
+}
+
+/// The steps after which `.ww` is at `.` w x_c.
+fn steps_of_cycles(c: usize) -> usize {
+    c * (c + 5) / 2
+}
+
+/// `.ww` after these steps. In a cycle `.` w x_c becomes `.B` x_c `IHJJ` by rule 4 and `.` x_(c+1) x_(c+1) by rule 8;
+/// each use of rule 6 then takes the first x one back, until it is w.
+fn self_application_after(steps: usize) -> Vec<u8> {
+    let c = (0..).find(|c| steps < steps_of_cycles(c + 1)).unwrap_or(0);
+    match steps - steps_of_cycles(c) {
+        0 => joined(&[b".AIHJJ", &nested_look_up(c)]),
+        1 => joined(&[b".B", &nested_look_up(c), b"IHJJ"]),
+        made => joined(&[b".", &nested_look_up(c + 3 - made), &nested_look_up(c + 1)]),
+    }
+}
+
+/// `.ww` has no result. Rule 8 of cycle c wants room for 19 + 8(c-1) letters, and the step before it is made in any
+/// area.
+pub fn no_result(area: usize, fuel: u64) -> Row {
+    let with_room = steps_of_cycles((area - 11) / 8) + 1;
+    let steps = with_room.min(fuel as usize);
+    let outcome = if fuel as usize <= with_room { "spent" } else { "no room" };
+    Row {
+        after: self_application_after(steps),
+        ..row(".AIHJJAIHJJ", area, fuel, &format!("{outcome} {steps}"), "")
     }
 }
 
