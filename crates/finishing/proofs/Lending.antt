@@ -14,7 +14,7 @@ use Rattle.calculus.proofs.PrefixCode.{length-text}
 use Rattle.calculus.proofs.Sizes.{next-size}
 use Rattle.reading.specs.Reply.{Reply}
 use Rattle.reading.specs.Reading.{termRead}
-use Rattle.stepping.specs.Areas.{holding}
+use Rattle.reading.specs.Area.{holding}
 use Rattle.stepping.specs.Held.{Holds}
 use Rattle.stepping.specs.Stepping.{Stepped, After, stepTo, stepNext, stepAdmitted, steppingOf}
 use Rattle.finishing.specs.Loop.{StepsOn}

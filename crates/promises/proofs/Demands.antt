@@ -15,7 +15,7 @@ use Rattle.reading.specs.Reply.{Reply}
 use Rattle.reading.specs.Reading.{ReadsAs}
 use Rattle.reading.proofs.Numbers.{reading-refused}
 use Rattle.reading.proofs.Whole.{reads-as, reads-as-only}
-use Rattle.stepping.specs.Areas.{holding, cleared}
+use Rattle.reading.specs.Area.{holding, cleared}
 use Rattle.stepping.specs.Held.{Holds}
 use Rattle.stepping.specs.Stepping as stepping
 use Rattle.stepping.proofs.Calls as step

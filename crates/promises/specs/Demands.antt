@@ -20,7 +20,7 @@ use Rattle.calculus.specs.Derivation.{Derivation, Derivable}
 use Rattle.reading.specs.Reply.{Reply, Refuses}
 use Rattle.reading.specs.Reading.{readingOf, ReadsAs}
 use Rattle.slices.specs.Split.{lines}
-use Rattle.stepping.specs.Areas.{holding, cleared}
+use Rattle.reading.specs.Area.{holding, cleared}
 use Rattle.stepping.specs.Held.{Holds}
 use Rattle.stepping.specs.Stepping as stepping
 use Rattle.finishing.specs.Finishing as finishing

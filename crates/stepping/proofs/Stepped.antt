@@ -21,7 +21,7 @@ use Rattle.rewriting.specs.declared.Rewrite.{Rewrite}
 use Rattle.rewriting.specs.Text.{rewritten}
 use Rattle.reducing.specs.Makes.{Makes, NextBy}
 use Rattle.writing.specs.Back.{Back}
-use Rattle.stepping.specs.Areas.{holding, cleared}
+use Rattle.reading.specs.Area.{holding, cleared}
 use Rattle.stepping.specs.Held.{Holds}
 use Rattle.stepping.specs.Stepping.{Stepped, After, stepTo, stepNext, stepAdmitted, steppingOf}
 
