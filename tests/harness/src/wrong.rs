@@ -401,6 +401,10 @@ impl<C: Controller> Controller for Wrong<C> {
         (self.bug.reply)(self.subject.compare(first, second, work, fuel))
     }
 
+    fn join(&self, f: &[u8], g: &[u8], area: &mut [u8]) -> u64 {
+        (self.bug.reply)(self.subject.join(f, g, area))
+    }
+
     fn check(&self, file: &[u8]) -> u64 {
         (self.bug.reply)((self.bug.read)(file, self.subject.check(file)))
     }
