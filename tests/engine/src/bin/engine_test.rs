@@ -13,8 +13,8 @@ use harness::suite::Suite;
 use harness::wrong::{bugs, Wrong};
 use harness::wrong_batches::{Batches, SLIPS};
 use harness::{
-    check_tests, compare_tests, count_tests, deep, end_tests, finish_tests, huge, machine_tests, match_tests,
-    read_tests, result_tests, small_tests, step_tests, threads,
+    check_tests, compare_tests, count_tests, deep, end_tests, finish_tests, huge, join_tests, machine_tests,
+    match_tests, read_tests, result_tests, small_tests, step_tests, threads,
 };
 
 /// What was written by hand: quick, and enough to see most of the bugs that are planted.
@@ -25,11 +25,13 @@ fn known(suite: &mut Suite, subject: impl Controller + Copy) {
     result_tests::known(suite, "engine", subject);
     count_tests::known(suite, "engine", subject);
     compare_tests::known(suite, "engine", subject);
+    join_tests::known(suite, "engine", subject);
     check_tests::known(suite, "engine", subject);
     match_tests::known(suite, "engine", subject);
     read_tests::made(suite, "engine", subject);
     check_tests::made(suite, "engine", subject);
     match_tests::made(suite, "engine", subject);
+    join_tests::made(suite, "engine", subject);
     count_tests::made(suite, "engine", subject);
     finish_tests::made(suite, "engine", subject);
     result_tests::made(suite, "engine", subject);
@@ -48,6 +50,7 @@ fn predicted(suite: &mut Suite, subject: impl Controller + Copy) {
     count_tests::predicted(suite, "engine", subject);
     count_tests::long(suite, "engine", subject, 16, 65_537);
     compare_tests::predicted(suite, "engine", subject);
+    join_tests::predicted(suite, "engine", subject);
     check_tests::predicted(suite, "engine", subject);
     match_tests::predicted(suite, "engine", subject);
 }
