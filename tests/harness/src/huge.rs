@@ -118,9 +118,13 @@ fn joined_far(subject: &dyn Controller) -> Outcome {
     replied_with(subject.join(index, b"J", area.bytes()), "joined", PIECE)
 }
 
-/// Reading and joining of over 2^32 letters.
+/// Reading of over 2^32 letters.
 pub fn far(suite: &mut Suite, label: &str, subject: impl Controller) {
     suite.test(&format!("{label} reading: 2^32 and 5 letters R, and x"), || read_far(&subject));
+}
+
+/// Joining of over 2^32 letters.
+pub fn far_joins(suite: &mut Suite, label: &str, subject: impl Controller) {
     suite.test(&format!("{label} joining: an index of 2^32 and 6 letters, and one that is none"), || {
         join_far(&subject)
     });

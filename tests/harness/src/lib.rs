@@ -38,4 +38,5 @@ pub mod wrong;
 pub mod wrong_batch;
 pub mod wrong_batches;
 pub mod wrong_ends;
+pub mod wrong_joins;
 pub mod wrong_print;

@@ -4,7 +4,8 @@
 //!   engine_test --batches    the long runs alone
 //!   engine_test --bugs       the names of the bugs that can be planted in the engine's replies, and of the slips in
 //!                            an engine of the tests' own that steps in batches
-//!   engine_test --bug NAME   every test on the engine with that bug; the long runs on the one with that slip
+//!   engine_test --bug NAME   every test on the engine with that bug; the long runs on the one with that slip; the
+//!                            joins past 2^32 on the one whose bug shows there alone
 
 use engine::Linked;
 use harness::lent::predict_fast;
@@ -62,6 +63,7 @@ fn tests(subject: impl Controller + Sync + Copy) -> i32 {
     deep::all(&mut suite, "engine", subject);
     huge::all(&mut suite, "engine", subject);
     huge::far(&mut suite, "engine", subject);
+    huge::far_joins(&mut suite, "engine", subject);
     threads::all(&mut suite, "engine", subject);
     machine_tests::all(&mut suite, "engine", subject);
     suite.end()
@@ -74,13 +76,25 @@ fn batch_tests(subject: impl Controller + Sync + Copy) -> i32 {
     suite.end()
 }
 
-/// Every test on the engine with a bug; long runs alone on the one that has a slip in its batches.
+/// Joins past 2^32 alone.
+fn far_tests(subject: impl Controller) -> i32 {
+    let mut suite = Suite::new();
+    huge::far_joins(&mut suite, "engine", subject);
+    suite.end()
+}
+
+/// Every test on the engine with a bug; long runs alone on the one that has a slip in its batches, and joins past
+/// 2^32 alone where the bug shows nowhere else.
 fn with_bug(name: &str) -> i32 {
     if let Some(&(_, slip)) = SLIPS.iter().find(|slip| slip.0 == name) {
         return batch_tests(Batches { slip });
     }
     let bug = bugs().iter().find(|bug| bug.name == name).expect("a bug of that name");
-    tests(Wrong { subject: Linked, bug })
+    let wrong = Wrong { subject: Linked, bug };
+    if bug.far {
+        return far_tests(wrong);
+    }
+    tests(wrong)
 }
 
 fn asked() -> i32 {
