@@ -201,16 +201,18 @@ fn readings(suite: &mut Suite, label: &str, subject: impl Controller + Sync + Co
     }
 }
 
-/// Texts of a million letters and more; what is said of each is what reading says.
+/// Texts of a million letters, and of more than 2^24; what is said of each is what reading says.
 fn million_letters() -> Vec<(Named, &'static str)> {
     const MILLION: usize = 1_000_000;
+    const MORE: usize = 17_000_000;
     vec![
         (("R^1000000 J", index(MILLION)), "whole"),
         (("H^1000000 J^1000001", nested("H", MILLION, "J", MILLION + 1)), "whole"),
         ((".1 a million times, T", joined(&[&repeated(".1", MILLION), b"T"])), "whole"),
-        (("R^1000000", repeated("R", MILLION)), "6@1000000"),
-        (("R^1000000 x", joined(&[&repeated("R", MILLION), b"x"])), "5@1000000"),
-        (("R^1000000 J J", joined(&[&index(MILLION), b"J"])), "7@1000001"),
+        (("R^17000000 J", index(MORE)), "whole"),
+        (("R^17000000", repeated("R", MORE)), "6@17000000"),
+        (("R^17000000 x", joined(&[&repeated("R", MORE), b"x"])), "5@17000000"),
+        (("R^17000000 J J", joined(&[&index(MORE), b"J"])), "7@17000001"),
     ]
 }
 
@@ -230,15 +232,14 @@ fn joined_deep(subject: impl Controller + Sync, f: &(Named, &str), g: &(Named, &
     Ok(())
 }
 
-/// Joining of a million letters.
+/// Joining of a million letters and more.
 fn joins(suite: &mut Suite, label: &str, subject: impl Controller + Sync + Copy) {
     let texts = million_letters();
     let (whole, short) = (&texts[0], &(("J", b"J".to_vec()), "whole"));
     for text in &texts {
-        let name = text.0 .0;
-        suite
-            .test(&format!("{label} deep joining: {name} with a million R"), || joined_deep(subject, text, whole));
-        suite.test(&format!("{label} deep joining: J with {name}"), || joined_deep(subject, short, text));
+        let name = format!("{label} deep joining: {}", text.0 .0);
+        suite.test(&format!("{name} with a million R"), || joined_deep(subject, text, whole));
+        suite.test(&format!("{name} behind J"), || joined_deep(subject, short, text));
     }
 }
 

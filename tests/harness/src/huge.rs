@@ -108,7 +108,7 @@ fn join_far(subject: &dyn Controller) -> Outcome {
     equal_bytes("the area", &area, &[7; 64])
 }
 
-/// A join of 2^32 and 64 million letters, whose reply has the lowest 32 bits of its size. The area's pages are one
+/// A join of 2^32 and 2^26 letters, whose reply has the lowest 32 bits of its size. The area's pages are one
 /// piece again and again, so that it takes no more memory than that; what they hold in the end is not looked at.
 fn joined_far(subject: &dyn Controller) -> Outcome {
     let mut pages = Pages::repeated(&vec![b'R'; PIECE], OVER / PIECE + 1)?;
@@ -125,8 +125,8 @@ pub fn far(suite: &mut Suite, label: &str, subject: impl Controller) {
 
 /// Joining of over 2^32 letters.
 pub fn far_joins(suite: &mut Suite, label: &str, subject: impl Controller) {
+    suite.test(&format!("{label} joining: a size of more than 32 bits"), || joined_far(&subject));
     suite.test(&format!("{label} joining: an index of 2^32 and 6 letters, and one that is none"), || {
         join_far(&subject)
     });
-    suite.test(&format!("{label} joining: a size of more than 32 bits"), || joined_far(&subject));
 }
