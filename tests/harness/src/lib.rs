@@ -10,6 +10,7 @@ pub mod derivations;
 pub mod end_tests;
 pub mod finish_tests;
 pub mod huge;
+pub mod join_laws;
 pub mod join_tests;
 pub mod lent;
 pub mod machine_borders;

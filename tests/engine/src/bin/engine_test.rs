@@ -14,8 +14,8 @@ use harness::suite::Suite;
 use harness::wrong::{bugs, Wrong};
 use harness::wrong_batches::{Batches, SLIPS};
 use harness::{
-    check_tests, compare_tests, count_tests, deep, end_tests, finish_tests, huge, join_tests, machine_tests,
-    match_tests, read_tests, result_tests, small_tests, step_tests, threads,
+    check_tests, compare_tests, count_tests, deep, end_tests, finish_tests, huge, join_laws, join_tests,
+    machine_tests, match_tests, read_tests, result_tests, small_tests, step_tests, threads,
 };
 
 /// What was written by hand: quick, and enough to see most of the bugs that are planted.
@@ -32,7 +32,7 @@ fn known(suite: &mut Suite, subject: impl Controller + Copy) {
     read_tests::made(suite, "engine", subject);
     check_tests::made(suite, "engine", subject);
     match_tests::made(suite, "engine", subject);
-    join_tests::made(suite, "engine", subject);
+    join_laws::made(suite, "engine", subject);
     count_tests::made(suite, "engine", subject);
     finish_tests::made(suite, "engine", subject);
     result_tests::made(suite, "engine", subject);
