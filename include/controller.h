@@ -1,11 +1,12 @@
 /*
- * The engine for the controller's firmware: seven functions on byte pointers and numbers.
+ * The engine for the controller's firmware: eight functions on byte pointers and numbers.
  *
  *     controller_read             is this text one term?                      answers its size
  *     controller_step             one step of a term, in place                answers the rule used
  *     controller_finish           steps until the term has none left          answers how many
  *     controller_finish_counted   the same                                    and how many by each rule
  *     controller_compare          have two terms the same result?             answers yes, no or not known
+ *     controller_join             one piece after another, as one term        answers its size
  *     controller_check            does every line of a derivation follow?     answers how many lines
  *     controller_match            do two derivations claim the same type?     answers yes or no
  *
@@ -54,8 +55,8 @@ extern "C" {
 /* Of any other answer: a rule's number, a count of steps or a count of lines, as stands with the constant. */
 #define CONTROLLER_VALUE(reply) ((uint32_t)(((reply) >> 8) & 0xffffff))
 
-/* Of an answer of controller_step, controller_finish and controller_finish_counted: the size of the term that
-   now stands in the area. */
+/* Of an answer of controller_step, controller_finish, controller_finish_counted and controller_join: the size of
+   the term that now stands in the area. It has 32 bits, which only a join can exceed. */
 #define CONTROLLER_SIZE(reply) ((uint32_t)((reply) >> 32))
 
 /* ---- Limits -------------------------------------------------------------------------------------------- */
@@ -65,6 +66,7 @@ enum {
     CONTROLLER_MOST_FUEL = 1000000,  /* steps that one call may make */
     CONTROLLER_RULES = 13,           /* rules of reduction, numbered from 1 */
     CONTROLLER_COUNTS_SIZE = 52,     /* bytes that a count for each rule takes */
+    CONTROLLER_JOIN_FRAME = 12,      /* letters of a join beside those of its two terms */
     CONTROLLER_LARGEST_FILE = 65536, /* bytes of a derivation file */
     CONTROLLER_MOST_LINES = 1024     /* lines of a derivation file */
 };
@@ -80,7 +82,8 @@ enum {
     CONTROLLER_FUEL_TOO_HIGH = 4,    /* the fuel is more than CONTROLLER_MOST_FUEL; place 0 */
     CONTROLLER_NO_LETTER = 5,        /* the byte at that place is none of J R H A I B . and no bell: 1 to 9, 0, E, T */
     CONTROLLER_NOT_WHOLE = 6,        /* the text ends at that place, and its term has not ended */
-    CONTROLLER_BEYOND = 7            /* the term has ended before that place, and a byte stands there */
+    CONTROLLER_BEYOND = 7,           /* the term has ended before that place, and a byte stands there */
+    CONTROLLER_JOIN_TOO_LARGE = 31   /* the join of two terms is larger than the area; place 0 */
 };
 
 /* Of the functions that take a derivation file. */
@@ -168,6 +171,23 @@ enum {
 uint64_t controller_compare(uint8_t *first, size_t first_size, size_t first_term, uint8_t *second,
                             size_t second_size, size_t second_term, uint8_t *work, size_t work_size,
                             uint64_t fuel);
+
+/*
+ * Writes the join of two terms into the area: the term that, applied, does g first and then f. Its text is A B,
+ * the text of f, B, the text of g, I H R J H R R J J, so it has CONTROLLER_JOIN_FRAME letters more than the two
+ * together. Zeros stand behind it to the end of the area. Nothing is run.
+ *   The terms may have any size, and the area too; to be finished, the join must stand in one of at most
+ *   CONTROLLER_LARGEST_AREA bytes. The area may hold anything. f and g are only read: they may be one buffer.
+ *   Refusals: those of controller_read for f, then those for g, then CONTROLLER_JOIN_TOO_LARGE. The reply does not
+ *   say whether it is f or g that cannot be read.
+ */
+enum {
+    CONTROLLER_JOINED = 160          /* the area holds the join; CONTROLLER_SIZE is its size, of which a join of
+                                        four gigabytes or more shows the lowest 32 bits:
+                                        f_size + g_size + CONTROLLER_JOIN_FRAME is all of it */
+};
+uint64_t controller_join(const uint8_t *f, size_t f_size, const uint8_t *g, size_t g_size, uint8_t *area,
+                         size_t area_size);
 
 /*
  * Checks a derivation file.
@@ -262,6 +282,13 @@ static inline uint64_t controller_call_compare(uint8_t *first, size_t first_size
                               controller_lent(work, work_size), work_size, fuel);
 }
 
+static inline uint64_t controller_call_join(const uint8_t *f, size_t f_size, const uint8_t *g, size_t g_size,
+                                            uint8_t *area, size_t area_size)
+{
+    return controller_join(controller_some(f, f_size), f_size, controller_some(g, g_size), g_size,
+                           controller_lent(area, area_size), area_size);
+}
+
 static inline uint64_t controller_call_check(const uint8_t *file, size_t file_size)
 {
     return controller_check(controller_some(file, file_size), file_size);
@@ -283,6 +310,8 @@ static inline uint64_t controller_call_match(const uint8_t *first, size_t first_
     controller_call_finish_counted(area, area_size, term_size, work, work_size, fuel, counts, counts_size)
 #define controller_compare(first, first_size, first_term, second, second_size, second_term, work, work_size, fuel) \
     controller_call_compare(first, first_size, first_term, second, second_size, second_term, work, work_size, fuel)
+#define controller_join(f, f_size, g, g_size, area, area_size) \
+    controller_call_join(f, f_size, g, g_size, area, area_size)
 #define controller_check(file, file_size) controller_call_check(file, file_size)
 #define controller_match(first, first_size, second, second_size) \
     controller_call_match(first, first_size, second, second_size)

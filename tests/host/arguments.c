@@ -56,6 +56,13 @@ uint64_t(controller_compare)(uint8_t *first, size_t first_size, size_t first_ter
     return 4;
 }
 
+uint64_t(controller_join)(const uint8_t *f, size_t f_size, const uint8_t *g, size_t g_size, uint8_t *area,
+                          size_t area_size)
+{
+    printf("join %s %zu %s %zu %s %zu\n", name_of(f), f_size, name_of(g), g_size, name_of(area), area_size);
+    return 8;
+}
+
 uint64_t(controller_check)(const uint8_t *file, size_t file_size)
 {
     printf("check %s %zu\n", name_of(file), file_size);
@@ -92,6 +99,13 @@ int main(void)
     returned(controller_finish_counted(a, 1, 2, b, 3, 4, NULL, 7));
     returned(controller_compare(a, 1, 2, b, 3, 4, c, 5, 6));
     returned(controller_compare(NULL, 0, 2, NULL, 0, 4, NULL, 0, 6));
+    returned(controller_join(a, 1, b, 2, c, 3));
+    returned(controller_join(a, 1, a, 1, c, 3));
+    returned(controller_join(NULL, 0, b, 2, c, 3));
+    returned(controller_join(a, 1, NULL, 0, c, 3));
+    returned(controller_join(a, 1, b, 2, NULL, 0));
+    returned(controller_join(NULL, 0, NULL, 0, NULL, 0));
+    returned(controller_join(NULL, 7, NULL, 8, NULL, 9));
     returned(controller_check(a, 1));
     returned(controller_check(NULL, 0));
     returned(controller_match(a, 1, b, 2));
@@ -99,6 +113,9 @@ int main(void)
     returned(controller_read(a, n++));
     returned(controller_step(a, n++, 0, b, 0));
     returned(controller_finish_counted(a, 0, 0, b, 0, 0, c, n++));
+    returned(controller_join(a, n++, b, 0, c, 0));
+    returned(controller_join(a, 0, b, n++, c, 0));
+    returned(controller_join(a, 0, b, 0, c, n++));
     printf("n is %zu\n", n);
     return 0;
 }

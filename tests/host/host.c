@@ -1,4 +1,4 @@
-/* A host like the firmware. It calls the seven functions on a table of inputs and prints each reply and every
+/* A host like the firmware. It calls the eight functions on a table of inputs and prints each reply and every
  * lent byte afterwards; what it must print is written by hand in expected.txt. It knows the engine from its
  * header alone: no code and no limit stands here as a number.
  *
@@ -23,10 +23,10 @@ static const constant codes[] = {
     CONSTANT(NO_LETTER),      CONSTANT(NOT_WHOLE),      CONSTANT(BEYOND),          CONSTANT(FILE_TOO_LONG),
     CONSTANT(FILE_EMPTY),     CONSTANT(NO_LINE_END),    CONSTANT(TOO_MANY_LINES),  CONSTANT(NOT_SIX_FIELDS),
     CONSTANT(MALFORMED),      CONSTANT(UNKNOWN_RULE),   CONSTANT(BAD_PREMISE),     CONSTANT(NO_INSTANCE),
-    CONSTANT(NORMAL),         CONSTANT(STEP_NO_ROOM),   CONSTANT(STEPPED),         CONSTANT(WHOLE),
-    CONSTANT(FINISHED),       CONSTANT(SPENT),          CONSTANT(NO_ROOM),         CONSTANT(SAME),
-    CONSTANT(DIFFERENT),      CONSTANT(UNDECIDED),      CONSTANT(ACCEPTED),        CONSTANT(MATCH),
-    CONSTANT(NO_MATCH),
+    CONSTANT(JOIN_TOO_LARGE), CONSTANT(NORMAL),         CONSTANT(STEP_NO_ROOM),    CONSTANT(STEPPED),
+    CONSTANT(WHOLE),          CONSTANT(FINISHED),       CONSTANT(SPENT),           CONSTANT(NO_ROOM),
+    CONSTANT(SAME),           CONSTANT(DIFFERENT),      CONSTANT(UNDECIDED),       CONSTANT(ACCEPTED),
+    CONSTANT(JOINED),         CONSTANT(MATCH),          CONSTANT(NO_MATCH),
 };
 
 static const constant limits[] = {
@@ -36,6 +36,7 @@ static const constant limits[] = {
     CONSTANT(MOST_LINES),
     CONSTANT(RULES),
     CONSTANT(COUNTS_SIZE),
+    CONSTANT(JOIN_FRAME),
 };
 
 #define COUNT(table) (sizeof(table) / sizeof(table)[0])
@@ -294,6 +295,80 @@ static void compare(const char *one, size_t one_size, const char *two, size_t tw
     free(work);
 }
 
+/* Joining, into an area of this size. */
+static void join_bytes(const char *name, const char *f, size_t f_size, const char *g, size_t g_size,
+                       size_t area_size)
+{
+    uint8_t *first = block(f, f_size, f_size, 0);
+    uint8_t *second = block(g, g_size, g_size, 0);
+    uint8_t *area = block("", 0, area_size, '#');
+    printf("join %s", name);
+    print_reply(controller_join(first, f_size, second, g_size, area, area_size));
+    print_bytes("f", first, f_size);
+    print_bytes("g", second, g_size);
+    print_bytes("area", area, area_size);
+    putchar('\n');
+    free(first);
+    free(second);
+    free(area);
+}
+
+static void join(const char *f, const char *g, size_t area_size)
+{
+    char name[64];
+    snprintf(name, sizeof name, "%s and %s", f, g);
+    join_bytes(name, f, strlen(f), g, strlen(g), area_size);
+}
+
+/* One block is both terms. */
+static void join_with_itself(const char *text, size_t area_size)
+{
+    size_t size = strlen(text);
+    uint8_t *both = block(text, size, size, 0);
+    uint8_t *area = block("", 0, area_size, '#');
+    printf("join %s with itself", text);
+    print_reply(controller_join(both, size, both, size, area, area_size));
+    print_bytes("text", both, size);
+    print_bytes("area", area, area_size);
+    putchar('\n');
+    free(both);
+    free(area);
+}
+
+/* The join stands behind a full stop and before a term, and what they make up is finished. */
+static void join_and_finish(const char *f, const char *g, const char *t, size_t area_size)
+{
+    uint8_t *area = block(".", 1, area_size, '#');
+    uint8_t *work = work_of(area_size);
+    uint64_t reply = controller_join((const uint8_t *)f, strlen(f), (const uint8_t *)g, strlen(g), area + 1,
+                                     area_size - 1);
+    size_t size = 1 + CONTROLLER_SIZE(reply) + strlen(t);
+    memcpy(area + 1 + CONTROLLER_SIZE(reply), t, strlen(t));
+    printf("join %s and %s, on %s", f, g, t);
+    print_reply(controller_finish(area, area_size, size, work, area_size, CONTROLLER_MOST_FUEL));
+    print_bytes("area", area, area_size);
+    putchar('\n');
+    free(area);
+    free(work);
+}
+
+/* An index of so many letters with itself, in an area with so many bytes more than the join has. */
+static void join_long(size_t times, size_t more)
+{
+    size_t size = times + 1, whole = 2 * size + CONTROLLER_JOIN_FRAME;
+    uint8_t *index = block("", 0, size, 'R');
+    uint8_t *area = block("", 0, whole + more, '#');
+    index[times] = 'J';
+    printf("join R^%zu J with itself", times);
+    print_reply(controller_join(index, size, index, size, area, whole + more));
+    print_bytes("first", area, 4);
+    print_bytes("middle", area + 1 + size, 4);
+    print_bytes("last", area + 3 + 2 * size, 9 + more);
+    putchar('\n');
+    free(index);
+    free(area);
+}
+
 /* Checking of a file and of one byte again and again; matching of two files. */
 
 static void check_bytes(const char *name, const char *file, size_t size)
@@ -493,6 +568,41 @@ static void comparisons(void)
     compare("J", 3, "JJ", 3, 3, 5);
 }
 
+/* The area is too small, just large enough, or larger; f is read first, then g, and then there must be room. */
+static void joins(void)
+{
+    join("I", "I", 13);
+    join("I", "I", 14);
+    join("1", "2", 16);
+    join("Jx", "xJ", 0);
+    join("J", "xJ", 0);
+    join("J", "", 20);
+    join("J", "J", 0);
+    join("", "J", 20);
+    join("HJ", "J", 20);
+    join("J", "HJ", 20);
+    join("R.", "JJ", 20);
+    join("J", "JJ", 13);
+    join("K", "", 5);
+    join_bytes("J and HJJ and a NUL", "J", 1, "HJJ\0", 4, 20);
+    join(".II", "H1T", CONTROLLER_JOIN_FRAME + 5);
+    join(".II", "H1T", CONTROLLER_JOIN_FRAME + 6);
+    join(".II", "H1T", CONTROLLER_JOIN_FRAME + 10);
+    join("H0E", "R9", CONTROLLER_JOIN_FRAME + 5);
+    join_with_itself("I", 14);
+    join_with_itself("BEB0I", 23);
+    join_with_itself("BEB0I", 21);
+    join_with_itself("JJ", 20);
+    join_and_finish("1", "2", "3", 24);
+    join_and_finish("AIJ", "I", "T", 60);
+}
+
+static void long_joins(void)
+{
+    join_long(CONTROLLER_LARGEST_AREA, 3);
+    join_long(1000000, 0);
+}
+
 #define LINE_J "*a1\tJ\ta\tJ\t-\t-\n"
 #define LINE_I "1\tI\t1\tI\t-\t-\n"
 #define LINE_K "1\t1\tb\tK\t-\t-\n"
@@ -562,6 +672,14 @@ static void nulls(void)
     print_bytes("counts", counts, CONTROLLER_COUNTS_SIZE);
     printf("\ncompare J and null");
     print_reply(controller_compare(area, sizeof area, 1, NULL, 0, 0, work, sizeof work, 5));
+    printf("\njoin null and J");
+    print_reply(controller_join(NULL, 0, area, 1, work, sizeof work));
+    printf("\njoin J and null");
+    print_reply(controller_join(area, 1, NULL, 0, work, sizeof work));
+    printf("\njoin J and J into null");
+    print_reply(controller_join(area, 1, area, 1, NULL, 0));
+    printf("\njoin null and null into null");
+    print_reply(controller_join(NULL, 0, NULL, 0, NULL, 0));
     printf("\ncheck null");
     print_reply(controller_check(NULL, 0));
     printf("\nmatch null and a file");
@@ -579,10 +697,15 @@ static void pointers(void)
 {
     uint64_t (*stepping)(uint8_t *, size_t, size_t, uint8_t *, size_t) = &controller_step;
     uint64_t (*reading)(const uint8_t *, size_t) = controller_read;
+    uint64_t (*joining)(const uint8_t *, size_t, const uint8_t *, size_t, uint8_t *, size_t) = &controller_join;
     uint8_t area[] = {'.', 'I', 'J'};
+    uint8_t both[2 + CONTROLLER_JOIN_FRAME];
     uint8_t work[] = {'w', 'w', 'w'};
     printf("read through a pointer");
     print_reply(reading(area, sizeof area));
+    printf("\njoin through a pointer");
+    print_reply(joining(area + 1, 1, area + 2, 1, both, sizeof both));
+    print_bytes("area", both, sizeof both);
     printf("\nstep through a pointer");
     print_reply(stepping(area, sizeof area, sizeof area, work, sizeof work));
     print_bytes("area", area, sizeof area);
@@ -605,6 +728,7 @@ int main(int count, char **words)
     counted_runs();
     count_refusals();
     comparisons();
+    joins();
     checks();
     matches();
     nulls();
@@ -613,6 +737,7 @@ int main(int count, char **words)
         long_readings();
         long_runs();
         long_counts();
+        long_joins();
     }
     return 0;
 }

@@ -1,28 +1,21 @@
 -- From the tests of `admit` to what finishing refuses: each way out as one law. Assumes nothing.
 use Prim.Native.Nat.{ℕ, _≤_, _<_}
 use native.Mathlib.Omega.{arith}
-use mathlib.Core.Path.{_≡_, sym, _∙_, ap, ap₂}
+use mathlib.Core.Path.{_≡_, sym, ap}
 use mathlib.Core.List.{List, [], _∷_}
-use mathlib.Core.Option.{Option}
-use types.Run.{OneOf, miss}
+use types.Run.{OneOf}
 use denote.Enum.Declared.{tagOf}
 use borrow.Author.Tests.{lt-ltb, le-ltb}
 use lib.ListN.{length, take}
-use Rattle.calculus.specs.Term.{Term, text}
-use Rattle.calculus.proofs.PrefixCode.{termOf-text}
+use Rattle.calculus.specs.Term.{Term}
 use Rattle.reading.specs.declared.Reading.{Reading}
 use Rattle.reading.specs.declared.Reading.the-variants.{Whole, NoLetter, NotWhole, Beyond}
 use Rattle.reading.proofs.Reading.{the-type}
 use Rattle.reading.specs.Reply.{Reply, passedOn}
-use Rattle.reading.specs.Reading.{readingOf, orRefusal, termRead}
+use Rattle.reading.specs.Reading.{readingOf, termRead}
 use Rattle.reading.specs.Answer.{answerOf as readingAnswer}
-use Rattle.reading.proofs.Whole.{whole-term, refused-none}
+use Rattle.reading.proofs.Terms.{whole-read, unread}
 use Rattle.admission.specs.Admission.{admitted, admission}
-
--- the term of a term's text is that term
-pub term-read : (t : Term) → termRead (text t) ≡ Reply.answered t
-unfolding termRead
-term-read t = ap (λ (o : Option Term). orRefusal o (readingOf (text t))) (termOf-text t)
 
 module _ (area : List ℕ) (len : ℕ) (work : List ℕ) (fuel : ℕ) where
   -- 1
@@ -50,31 +43,18 @@ module _ (area : List ℕ) (len : ℕ) (work : List ℕ) (fuel : ℕ) where
           read-decides r e = rw (le-ltb _ _ short, le-ltb _ _ room, le-ltb _ _ within, le-ltb _ _ fuelled) e
 
           -- what reading refuses
-          reading-refused :
-              (number place : ℕ) → Reply.refused number place ≡ readingOf (take len area) →
-              Reply.refused number place ≡ admission (admitted area len work fuel)
-          unfolding termRead
-          reading-refused number place e =
-              sym
-              (ap admission
-              (read-decides (Reply.refused number place) (ap₂ orRefusal (refused-none (take len area) number place (sym e)) (sym e))))
-
-          -- what is not whole is refused
-          pub unread :
+          pub reading-refused :
               (r : Reading) → readingAnswer r ≡ readingOf (take len area) → OneOf (1 ∷ 2 ∷ 3 ∷ []) (tagOf the-type r) →
               passedOn (readingAnswer r) ≡ admission (admitted area len work fuel)
-          unread (Whole n) e k = absurd (miss (1 ∷ 2 ∷ 3 ∷ []) 0 tt k)
-          unread (NoLetter place) e k = reading-refused 5 place e
-          unread (NotWhole place) e k = reading-refused 6 place e
-          unread (Beyond place) e k = reading-refused 7 place e
+          reading-refused r e k = sym (ap admission (read-decides (passedOn (readingAnswer r)) (unread (take len area) r e k)))
 
           -- what is whole is admitted
           pub whole :
               (r : Reading) → readingAnswer r ≡ readingOf (take len area) → tagOf the-type r ≡ 0 →
               Reply.answered tt ≡ admission (admitted area len work fuel)
           whole (Whole n) e k =
-              let (t, same, sized) = whole-term (take len area) n (sym e) in
-              sym (ap admission (read-decides (Reply.answered t) (ap termRead same ∙ term-read t)))
+              let (t, same, sized, read) = whole-read (take len area) n e in
+              sym (ap admission (read-decides (Reply.answered t) read))
           whole (NoLetter place) e k = absurd (omega arith)
           whole (NotWhole place) e k = absurd (omega arith)
           whole (Beyond place) e k = absurd (omega arith)

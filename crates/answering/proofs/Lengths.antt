@@ -17,7 +17,7 @@ use Rattle.slices.specs.Numeral.{decimal}
 use Rattle.slices.proofs.Put.{put-fits, behind-fits}
 use Rattle.slices.proofs.Decimal.{decimal-length}
 use Rattle.reading.specs.Reply.{Reply, Refuses}
-use Rattle.stepping.specs.Areas.{holding}
+use Rattle.reading.specs.Area.{holding}
 use Rattle.finishing.specs.Finishing.{After}
 use Rattle.finishing.proofs.Calls.{Call, call}
 use Rattle.printing.specs.Printed.{lineOf, countOf}

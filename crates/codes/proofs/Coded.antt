@@ -7,7 +7,18 @@ use Rattle.stepping.specs.Stepping as stepping
 use Rattle.finishing.specs.Finishing as finishing
 use Rattle.counting.specs.Counting as counting
 use Rattle.verdicts.specs.Comparing as comparing
-use Rattle.codes.specs.Encoding.{stepNumber, finishNumber, compareNumber, codedStep, codedFinish, codedCount, codedCompare}
+use Rattle.joining.specs.Joining as joining
+use Rattle.codes.specs.Encoding.{
+  stepNumber,
+  finishNumber,
+  compareNumber,
+  joinNumber,
+  codedStep,
+  codedFinish,
+  codedCount,
+  codedCompare,
+  codedJoin,
+}
 
 pub coded-step :
     {n : ℕ} {reply : Reply stepping.Stepped} {area work : List ℕ} {end : stepping.After} →
@@ -29,3 +40,8 @@ pub coded-compare :
     n ≡ compareNumber reply → comparing.After.after reply first second work ≡ end → (n, first, second, work) ≡ codedCompare end
 coded-compare {n} {reply} {first} {second} {work} number ended =
     ap (λ (m : ℕ). (m, first, second, work)) number ∙ ap codedCompare ended
+
+pub coded-join :
+    {n : ℕ} {reply : Reply ℕ} {area : List ℕ} {end : joining.After} →
+    n ≡ joinNumber reply → joining.After.after reply area ≡ end → (n, area) ≡ codedJoin end
+coded-join {n} {reply} {area} number ended = ap (λ (m : ℕ). (m, area)) number ∙ ap codedJoin ended

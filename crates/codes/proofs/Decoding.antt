@@ -1,5 +1,5 @@
 -- A number taken apart gives back what was put in, where each part fits its bits. Assumes nothing.
-use Prim.Native.Nat.{ℕ, _<_}
+use Prim.Native.Nat.{ℕ, _%_, _<_}
 use native.Mathlib.Omega.{arith}
 use mathlib.Core.Path.{_≡_, refl}
 use mathlib.Core.Bool.{Bool, true, false}
@@ -10,7 +10,7 @@ use Rattle.reading.specs.Reply.{Reply, Refuses}
 use Rattle.stepping.specs.Stepping as stepping
 use Rattle.finishing.specs.Finishing as finishing
 use Rattle.verdicts.specs.Comparing as comparing
-use Rattle.codes.specs.Encoding.{Parts, placeLimit, encode, outcomeCode, compareParts, matchParts}
+use Rattle.codes.specs.Encoding.{Parts, placeLimit, sizeLimit, encode, outcomeCode, compareParts, matchParts}
 use Rattle.codes.specs.Decoding.{
   codePart,
   placePart,
@@ -119,6 +119,14 @@ unfolding decoded comparedIn
 compared-decoded comparing.Compared.same-results = refl
 compared-decoded comparing.Compared.different-results = refl
 compared-decoded comparing.Compared.undecided = refl
+
+-- a size of any length, cut to its bits
+pub joined-decoded : (size : ℕ) → decoded sizePart (encode (Parts.narrow 160 0 size)) ≡ Reply.answered (size % sizeLimit)
+unfolding decoded
+joined-decoded size =
+    let c : codePart (encode (Parts.narrow 160 0 size)) ≡ 160 = omega arith in
+    let s : sizePart (encode (Parts.narrow 160 0 size)) ≡ size % sizeLimit = omega arith in
+    rw (c, s)
 
 pub accepted-decoded : (lines : ℕ) → lines < 16777216 → decoded valuePart (encode (Parts.narrow 120 lines 0)) ≡ Reply.answered lines
 unfolding decoded

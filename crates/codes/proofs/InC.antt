@@ -1,8 +1,8 @@
 -- A caller decodes what the operation answers. Carried by: refusals' numbers are below 100, and places, lines, rules, counts and sizes are
 -- within limits that fit their bits. Assumes nothing.
-use Prim.Native.Nat.{ℕ, _≤_, _<_}
+use Prim.Native.Nat.{ℕ, _%_, _≤_, _<_}
 use native.Mathlib.Omega.{arith}
-use mathlib.Core.Path.{_≡_, refl, ap}
+use mathlib.Core.Path.{_≡_, refl, _∙_, ap}
 use mathlib.Core.Bool.{Bool}
 use mathlib.Core.Logic.{⊎-elim}
 use mathlib.Core.List.{List, _++_}
@@ -19,7 +19,7 @@ use Rattle.words.proofs.Words.{words-back}
 use Rattle.reading.specs.Reply.{Reply}
 use Rattle.reading.specs.Reading.{readingOf}
 use Rattle.reading.proofs.Numbers.{reading-refused}
-use Rattle.reading.proofs.Whole.{whole-term}
+use Rattle.reading.proofs.Whole.{whole-term, reads-as-only}
 use Rattle.stepping.specs.Stepping as stepping
 use Rattle.stepping.proofs.Calls as step
 use Rattle.finishing.specs.Finishing as finishing
@@ -29,6 +29,11 @@ use Rattle.counting.specs.Counting as counting
 use Rattle.counting.proofs.Calls as counted
 use Rattle.verdicts.specs.Comparing as comparing
 use Rattle.verdicts.proofs.Calls as compare
+use Rattle.joining.specs.Join.{join, joinSize}
+use Rattle.joining.specs.Joining as joining
+use Rattle.joining.specs.Joins.{JoinsAs}
+use Rattle.joining.proofs.Text.{length-join}
+use Rattle.joining.proofs.Calls.{JoinsTo, joins-to}
 use Rattle.derivation_files.specs.Checking.{checkingOf}
 use Rattle.derivation_files.proofs.Listed.{checking-refused}
 use Rattle.derivation_files.proofs.Files.{accepted-exactly}
@@ -36,20 +41,24 @@ use Rattle.matching.specs.Matching.{matchingOf}
 use Rattle.matching.proofs.Calls.{match-refused}
 use Rattle.codes.specs.Encoding.{
   placeLimit,
+  sizeLimit,
   readNumber,
   stepNumber,
   finishNumber,
   compareNumber,
+  joinNumber,
   checkNumber,
   matchNumber,
   codedStep,
   codedFinish,
   codedCount,
   codedCompare,
+  codedJoin,
 }
 use Rattle.codes.specs.Decoding.{
   placePart,
   valuePart,
+  sizePart,
   steppedIn,
   admittedIn,
   comparedIn,
@@ -61,6 +70,8 @@ use Rattle.codes.specs.Decoding.{
   decodedFinish,
   decodedCount,
   decodedCompare,
+  decodedJoin,
+  sizeCut,
   decodedCheck,
   decodedMatch,
   InC,
@@ -77,6 +88,7 @@ use Rattle.codes.proofs.Decoding.{
   ran-decoded,
   no-run-decoded,
   compared-decoded,
+  joined-decoded,
   accepted-decoded,
   matched-decoded,
 }
@@ -146,6 +158,26 @@ compare-decoded {first} {second} {fuel = fuel} (compare.Call.made t u admits₁ 
     let s = run fuel (length second) u in
     cc (compared-decoded (comparing.verdict (outcome r) (outcome s) (text (reached t r)) (text (reached u s))))
 
+module _ (f g area : List ℕ) (short₁ : length f < placeLimit) (short₂ : length g < placeLimit) where
+  join-decoded : (after : joining.After) → JoinsTo f g area after → decodedJoin (codedJoin after) ≡ sizeCut after
+  unfolding joinNumber
+  join-decoded (joining.After.after reply area′) (JoinsAs.first-refused {number = n} {place = p} r) =
+      cc (refused-decoded sizePart (omega arith) (omega arith) short₁ (reading-refused f n p (reads-as-only r)))
+  join-decoded (joining.After.after reply area′) (JoinsAs.second-refused {number = n} {place = p} t e r) =
+      cc (refused-decoded sizePart (omega arith) (omega arith) short₂ (reading-refused g n p (reads-as-only r)))
+  join-decoded (joining.After.after reply area′) (JoinsAs.too-large t u d e large) =
+      cc (wide-refused sizePart 31 0 (omega arith) (omega arith))
+  join-decoded (joining.After.after reply area′) (JoinsAs.joined t u d e fits) = cc (joined-decoded (size (join t u)))
+
+-- a size that 32 bits hold is not cut
+size-whole :
+    (f g area : List ℕ) (after : joining.After) → JoinsTo f g area after → joinSize (length f) (length g) < sizeLimit →
+    sizeCut after ≡ after
+size-whole f g area (joining.After.after (Reply.refused n p) area′) found small = refl
+size-whole f g area (joining.After.after (Reply.answered s) area′) (JoinsAs.joined t u d e fits) small =
+    let whole : s % sizeLimit ≡ s = omega (arith, length-join t u, ap length d, ap length e) in
+    ap (λ (n : ℕ). joining.After.after (Reply.answered n) area′) whole
+
 check-decoded : (file : List ℕ) (r : Reply ℕ) → checkingOf file ≡ r → decodedCheck (checkNumber r) ≡ r
 unfolding checkNumber
 check-decoded file (Reply.refused n p) e =
@@ -169,6 +201,11 @@ in-c =
       finish = λ area len work fuel. finish-decoded (finish.call area len work fuel);
       finish-counted = λ area len work fuel counts. count-decoded (counted.call area len work fuel counts);
       compare = λ first len₁ second len₂ work fuel. compare-decoded (compare.call first len₁ second len₂ work fuel);
+      join = λ f g area short₁ short₂. join-decoded f g area short₁ short₂ (joining.joiningOf f g area) (joins-to f g area);
+      join-whole =
+          λ f g area small.
+          join-decoded f g area (omega arith) (omega arith) (joining.joiningOf f g area) (joins-to f g area)
+          ∙ size-whole f g area (joining.joiningOf f g area) (joins-to f g area) small;
       check = λ file. check-decoded file (checkingOf file) refl;
       match-claims = λ first second. match-decoded first second (matchingOf first second) refl;
     }

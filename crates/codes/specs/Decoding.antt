@@ -15,9 +15,22 @@ use Rattle.finishing.specs.Finishing as finishing
 use Rattle.words.specs.Word.{wordIn}
 use Rattle.counting.specs.Counting as counting
 use Rattle.verdicts.specs.Comparing as comparing
+use Rattle.joining.specs.Join.{joinSize}
+use Rattle.joining.specs.Joining as joining
 use Rattle.derivation_files.specs.Checking.{checkingOf}
 use Rattle.matching.specs.Matching.{matchingOf}
-use Rattle.codes.specs.Encoding.{placeLimit, readNumber, checkNumber, matchNumber, codedStep, codedFinish, codedCount, codedCompare}
+use Rattle.codes.specs.Encoding.{
+  placeLimit,
+  sizeLimit,
+  readNumber,
+  checkNumber,
+  matchNumber,
+  codedStep,
+  codedFinish,
+  codedCount,
+  codedCompare,
+  codedJoin,
+}
 
 -- ---- the macros of include/controller.h
 
@@ -105,15 +118,23 @@ decodedCount left = counting.After.after (decoded admittedIn (left .0)) (ranIn (
 abbrev pub decodedCompare : ℕ × List ℕ × List ℕ × List ℕ → comparing.After
 decodedCompare left = comparing.After.after (decoded comparedIn (left .0)) (left .1) (left .2) (left .3)
 
+abbrev pub decodedJoin : ℕ × List ℕ → joining.After
+decodedJoin left = joining.After.after (decoded sizePart (left .0)) (left .1)
+
+-- of the size of a join the lowest 32 bits are seen
+abbrev pub sizeCut : joining.After → joining.After
+sizeCut (joining.After.after (Reply.refused number place) area) = joining.After.after (Reply.refused number place) area
+sizeCut (joining.After.after (Reply.answered size) area) = joining.After.after (Reply.answered (size % sizeLimit)) area
+
 abbrev pub decodedCheck : ℕ → Reply ℕ
 decodedCheck reply = decoded valuePart reply
 
 abbrev pub decodedMatch : ℕ → Reply Bool
 decodedMatch reply = decoded matchIn reply
 
--- What the caller sees is what the operation answers and leaves, for every call of the seven functions; `controller_finish` shows all but
--- the counts by rule. (What stands in the brackets is what the function leaves, by its contract.) Only reading has a condition: there are
--- fewer than 2 to the 56 bytes.
+-- What the caller sees is what the operation answers and leaves, for every call of the eight functions; `controller_finish` shows all but
+-- the counts by rule, `controller_join` all of a size that 32 bits hold. (What stands in the brackets is what the function leaves, by its
+-- contract.) Only the two that take terms of any length have a condition: no term has 2 to the 56 bytes or more.
 pub record InC : Type 0 where
   pub read : (bytes : List ℕ) → length bytes < placeLimit → decodedRead (readNumber (readingOf bytes)) ≡ readingOf bytes
   pub step :
@@ -129,5 +150,11 @@ pub record InC : Type 0 where
       (first : List ℕ) (len₁ : ℕ) (second : List ℕ) (len₂ : ℕ) (work : List ℕ) (fuel : ℕ) →
       decodedCompare (codedCompare (comparing.comparingOf first len₁ second len₂ work fuel))
       ≡ comparing.comparingOf first len₁ second len₂ work fuel
+  pub join :
+      (f g area : List ℕ) → length f < placeLimit → length g < placeLimit →
+      decodedJoin (codedJoin (joining.joiningOf f g area)) ≡ sizeCut (joining.joiningOf f g area)
+  pub join-whole :
+      (f g area : List ℕ) → joinSize (length f) (length g) < sizeLimit →
+      decodedJoin (codedJoin (joining.joiningOf f g area)) ≡ joining.joiningOf f g area
   pub check : (file : List ℕ) → decodedCheck (checkNumber (checkingOf file)) ≡ checkingOf file
   pub match-claims : (first second : List ℕ) → decodedMatch (matchNumber (matchingOf first second)) ≡ matchingOf first second

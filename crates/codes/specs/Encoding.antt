@@ -8,6 +8,7 @@ use Rattle.stepping.specs.Stepping as stepping
 use Rattle.finishing.specs.Finishing as finishing
 use Rattle.counting.specs.Counting as counting
 use Rattle.verdicts.specs.Comparing as comparing
+use Rattle.joining.specs.Joining as joining
 
 -- ---- a code and what stands behind it
 
@@ -20,10 +21,14 @@ pub data Parts : Type 0 where
 abbrev pub placeLimit : ℕ
 placeLimit = 72057594037927936
 
+-- 2 to the 32
+abbrev pub sizeLimit : ℕ
+sizeLimit = 4294967296
+
 -- the code in bits 0 to 7, a place from bit 8 on, or a value from bit 8 and a size from bit 32 on; each cut to its bits
 abbrev pub encode : Parts → ℕ
 encode (Parts.wide code place) = code % 256 + place % placeLimit * 256
-encode (Parts.narrow code value size) = code % 256 + value % 16777216 * 256 + size % 4294967296 * 4294967296
+encode (Parts.narrow code value size) = code % 256 + value % 16777216 * 256 + size % sizeLimit * 4294967296
 
 -- ---- the codes
 
@@ -58,6 +63,10 @@ compareParts comparing.Compared.same-results = Parts.narrow 113 0 0
 compareParts comparing.Compared.different-results = Parts.narrow 114 0 0
 compareParts comparing.Compared.undecided = Parts.narrow 115 0 0
 
+-- joining: 160 joined, with the size of the join
+abbrev pub joinParts : ℕ → Parts
+joinParts size = Parts.narrow 160 0 size
+
 -- checking: 120 accepted, with the number of lines
 abbrev pub checkParts : ℕ → Parts
 checkParts lines = Parts.narrow 120 lines 0
@@ -81,6 +90,9 @@ finishNumber reply r = encode (parts (λ done. runParts r) reply)
 unfoldable pub compareNumber : Reply comparing.Compared → ℕ
 compareNumber reply = encode (parts compareParts reply)
 
+unfoldable pub joinNumber : Reply ℕ → ℕ
+joinNumber reply = encode (parts joinParts reply)
+
 unfoldable pub checkNumber : Reply ℕ → ℕ
 checkNumber reply = encode (parts checkParts reply)
 
@@ -100,3 +112,6 @@ codedCount (counting.After.after reply r area work counts) = (finishNumber reply
 
 abbrev pub codedCompare : comparing.After → ℕ × List ℕ × List ℕ × List ℕ
 codedCompare (comparing.After.after reply first second work) = (compareNumber reply, first, second, work)
+
+abbrev pub codedJoin : joining.After → ℕ × List ℕ
+codedJoin (joining.After.after reply area) = (joinNumber reply, area)

@@ -5,9 +5,10 @@ ghost use Rattle.stepping.specs.Stepping.{steppingOf};
 ghost use Rattle.finishing.specs.Finishing.{finishingOf};
 ghost use Rattle.counting.specs.Counting.{countingOf};
 ghost use Rattle.verdicts.specs.Comparing.{comparingOf};
+ghost use Rattle.joining.specs.Joining.{joiningOf};
 ghost use Rattle.derivation_files.specs.Checking.{checkingOf};
 ghost use Rattle.matching.specs.Matching.{matchingOf};
-ghost use Rattle.codes.specs.Encoding.{readNumber, checkNumber, matchNumber, codedStep, codedFinish, codedCount, codedCompare};
+ghost use Rattle.codes.specs.Encoding.{readNumber, checkNumber, matchNumber, codedStep, codedFinish, codedCount, codedCompare, codedJoin};
 
 // Whether bytes, any number of them, are the text of one term.
 #[no_mangle]
@@ -82,6 +83,14 @@ pub extern "C" fn controller_compare(
         work,
         fuel,
     ))
+}
+
+// The join of two terms, written into the area.
+#[no_mangle]
+pub extern "C" fn controller_join(f: &[u8], g: &[u8], area: &mut [u8]) -> u64
+    ensures { λ r. ⌜ (r, now (area .exit)) ≡ codedJoin (joiningOf (now (f .entry)) (now (g .entry)) (now (area .entry))) ⌝ }
+{
+    term_numbers::join_number(joining::join(f, g, area))
 }
 
 // Whether each line of a derivation file follows.

@@ -11,7 +11,7 @@ use Rattle.calculus.specs.Term.{Term, text, size}
 use Rattle.calculus.specs.Run.{Outcome, run, count, reached}
 use Rattle.calculus.proofs.Runs.{count-fuel}
 use Rattle.reading.specs.Reply.{Reply}
-use Rattle.stepping.specs.Areas.{holding, cleared}
+use Rattle.reading.specs.Area.{holding, cleared}
 use Rattle.stepping.specs.Held.{Holds}
 use Rattle.admission.specs.Admission.{admitted, admission}
 use Rattle.admission.specs.Answer.{replyOf}

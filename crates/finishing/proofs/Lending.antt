@@ -14,11 +14,11 @@ use Rattle.calculus.proofs.PrefixCode.{length-text}
 use Rattle.calculus.proofs.Sizes.{next-size}
 use Rattle.reading.specs.Reply.{Reply}
 use Rattle.reading.specs.Reading.{termRead}
-use Rattle.stepping.specs.Areas.{holding}
+use Rattle.reading.specs.Area.{holding}
+use Rattle.reading.proofs.Terms.{term-read}
 use Rattle.stepping.specs.Held.{Holds}
 use Rattle.stepping.specs.Stepping.{Stepped, After, stepTo, stepNext, stepAdmitted, steppingOf}
 use Rattle.finishing.specs.Loop.{StepsOn}
-use Rattle.admission.proofs.Admitting.{term-read}
 
 -- the length is the size of the term
 pub held-size : {area : List ℕ} {len : ℕ} {t : Term} → Holds area len t → len ≡ size t

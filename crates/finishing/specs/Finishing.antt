@@ -7,7 +7,7 @@ use Rattle.calculus.specs.Rule.{ruleNumbers}
 use Rattle.calculus.specs.Run.{Outcome, Run, run, outcome, count, reached}
 use Rattle.calculus.specs.Counts.{uses}
 use Rattle.reading.specs.Reply.{Reply}
-use Rattle.stepping.specs.Areas.{holding, cleared}
+use Rattle.reading.specs.Area.{holding, cleared}
 use Rattle.admission.specs.Admission.{admitted}
 
 -- the record of a run: its outcome, its count, how often it used each rule, and the size of the term reached

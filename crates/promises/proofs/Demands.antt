@@ -2,7 +2,7 @@
 use Prim.Native.Nat.{ℕ, _≤_, _<_}
 use mathlib.Core.Path.{_≡_, refl, sym, _∙_, ap, subst, subst₂}
 use mathlib.Core.Logic.{_↔_, _⊎_, inl, inr, ⊎-elim}
-use mathlib.Core.List.{List, _++_}
+use mathlib.Core.List.{List, _++_, List·Memᴰ·head}
 use lib.ListN.{length, take, drop}
 use lib.Seq.{take-at}
 use Rattle.calculus.specs.Term.{Term, text, size, Normal}
@@ -11,11 +11,11 @@ use Rattle.calculus.specs.Turning.{Turn}
 use Rattle.calculus.specs.Run.{Outcome, run, reached}
 use Rattle.calculus.proofs.PrefixCode.{length-text}
 use Rattle.calculus.proofs.Counts.{uses-total}
-use Rattle.reading.specs.Reply.{Reply}
+use Rattle.reading.specs.Reply.{Reply, Refuses}
 use Rattle.reading.specs.Reading.{ReadsAs}
-use Rattle.reading.proofs.Numbers.{reading-refused}
+use Rattle.reading.proofs.Numbers.{Unread, reading-refused}
 use Rattle.reading.proofs.Whole.{reads-as, reads-as-only}
-use Rattle.stepping.specs.Areas.{holding, cleared}
+use Rattle.reading.specs.Area.{holding, cleared}
 use Rattle.stepping.specs.Held.{Holds}
 use Rattle.stepping.specs.Stepping as stepping
 use Rattle.stepping.proofs.Calls as step
@@ -27,6 +27,9 @@ use Rattle.counting.specs.Counting as counting
 use Rattle.counting.proofs.Calls as counted
 use Rattle.verdicts.specs.Comparing as comparing
 use Rattle.verdicts.proofs.Calls as compare
+use Rattle.joining.specs.Joining as joining
+use Rattle.joining.specs.Joins.{JoinsAs}
+use Rattle.joining.proofs.Calls.{joins-exactly}
 use Rattle.derivation_files.specs.Checks.{ChecksAs}
 use Rattle.derivation_files.proofs.Listed.{checking-refused}
 use Rattle.derivation_files.proofs.Files.{accepted-exactly, claim-unique, claimed, accepted-derivable}
@@ -35,7 +38,7 @@ use Rattle.derivation_files.proofs.LaidOut.{laid-out}
 use Rattle.matching.proofs.Claims.{match-exactly}
 use Rattle.matching.proofs.Calls.{match-refused}
 use Rattle.codes.proofs.InC.{in-c}
-use Rattle.promises.specs.Demands.{StepRefuses, FinishRefuses, SteppedTo, RanTo, ComparedTo, Demands}
+use Rattle.promises.specs.Demands.{StepRefuses, FinishRefuses, JoinRefuses, SteppedTo, RanTo, ComparedTo, Demands}
 
 step-refused :
     {area work area′ work′ : List ℕ} {len number place : ℕ} →
@@ -126,6 +129,21 @@ compare-refused :
 compare-refused (compare.Call.first-refused m) = (inl m, refl, refl, refl)
 compare-refused (compare.Call.second-refused m) = (inr m, refl, refl, refl)
 
+-- a refusal of reading is one of joining
+of-reading : {term : List ℕ} {number place : ℕ} → ReadsAs term (Reply.refused number place) → JoinRefuses term number place
+of-reading {term} {number} {place} r = listed (reading-refused term number place (reads-as-only r))
+  where
+    listed : Unread (length term) number place → JoinRefuses term number place
+    listed (Refuses.at-zero m here) = absurd (elim m [ ])
+    listed (Refuses.at-place m low high) = Refuses.at-place m low high
+
+join-refused :
+    {f g area area′ : List ℕ} {number place : ℕ} → JoinsAs f g area (Reply.refused number place) area′ →
+    (JoinRefuses f number place ⊎ JoinRefuses g number place) × (area′ ≡ area)
+join-refused (JoinsAs.first-refused r) = (inl (of-reading r), refl)
+join-refused (JoinsAs.second-refused t e r) = (inr (of-reading r), refl)
+join-refused (JoinsAs.too-large t u d e large) = (inl (Refuses.at-zero (List·Memᴰ·head refl) refl), refl)
+
 -- the area of a run that is not refused holds the text of the term reached at its start
 reached-text :
     {area work area′ work′ : List ℕ} {len fuel n s : ℕ} {k : List ℕ} {o : Outcome} (r : RanTo area len work fuel o n k s area′ work′) →
@@ -164,6 +182,7 @@ demands =
       comparing-refuses =
           λ first second work first′ second′ work′ len₁ len₂ fuel number place e.
           compare-refused (subst (compare.Call first len₁ second len₂ work fuel) e (compare.call first len₁ second len₂ work fuel));
+      joining-refuses = λ f g area area′ number place e. join-refused (joins-exactly f g area area′ (Reply.refused number place) .0 e);
       checking-refuses = checking-refused;
       matching-refuses =
           λ first second number line e.
@@ -182,6 +201,7 @@ demands =
           λ first second work first′ second′ work′ len₁ len₂ fuel c e.
           compare-ran (subst (compare.Call first len₁ second len₂ work fuel) e (compare.call first len₁ second len₂ work fuel));
       run-finishes = λ area work len fuel t r. run-finishes;
+      joins = joins-exactly;
       checks = λ file reply. (λ e. subst (ChecksAs file) e (checks-as file), λ c. sym (checks-as-only file reply c));
       accepted-exactly = accepted-exactly;
       claimed = λ file n. claimed;

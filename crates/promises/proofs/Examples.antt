@@ -10,10 +10,11 @@ use Rattle.types.specs.Parse.{typeOf, contextOf}
 use Rattle.reading.specs.Reading.{readingOf, termRead}
 use Rattle.finishing.specs.Finishing.{finishingOf}
 use Rattle.counting.specs.Counting.{countingOf}
+use Rattle.joining.specs.Joining.{joiningOf}
 use Rattle.derivation_files.specs.Line.{nameOf, premiseOf}
 use Rattle.derivation_files.specs.Checking.{checkingOf}
 use Rattle.promises.specs.Examples.{rows, made, stated}
 
 pub rows-hold : map made rows ≡ map stated rows
-unfolding made stated decLe letterOf termOf numberOf signOf signsOf typeOf contextOf readingOf termRead finishingOf countingOf nameOf premiseOf checkingOf
+unfolding made stated decLe letterOf termOf numberOf signOf signsOf typeOf contextOf readingOf termRead finishingOf countingOf joiningOf nameOf premiseOf checkingOf
 rows-hold = refl

@@ -1,7 +1,8 @@
 -- The three demands (REQUIREMENTS, Demands), stated over the definitions that the public operations promise to equal, and over the relations
 -- that those definitions are shown to agree with. `demands` of proofs/Demands.antt is the proof.
 -- That a call ends, does nothing undefined, and that its reply and every lent byte are those of these definitions, for every input, is what the
--- contract of each operation says; none has a `requires`. That no result is overlooked stands beside them, in specs/Results.antt.
+-- contract of each operation says; none has a `requires`. That no result is overlooked stands beside them, in specs/Results.antt, and what
+-- joins do in specs/Joined.antt.
 use Prim.Native.Nat.{ℕ, _≤_, _<_, min}
 use mathlib.Core.Path.{_≡_}
 use mathlib.Core.Bool.{true}
@@ -20,7 +21,7 @@ use Rattle.calculus.specs.Derivation.{Derivation, Derivable}
 use Rattle.reading.specs.Reply.{Reply, Refuses}
 use Rattle.reading.specs.Reading.{readingOf, ReadsAs}
 use Rattle.slices.specs.Split.{lines}
-use Rattle.stepping.specs.Areas.{holding, cleared}
+use Rattle.reading.specs.Area.{holding, cleared}
 use Rattle.stepping.specs.Held.{Holds}
 use Rattle.stepping.specs.Stepping as stepping
 use Rattle.finishing.specs.Finishing as finishing
@@ -28,6 +29,8 @@ use Rattle.finishing.specs.RunOf.{RunOf}
 use Rattle.words.specs.Word.{wordsOf}
 use Rattle.counting.specs.Counting as counting
 use Rattle.verdicts.specs.Comparing as comparing
+use Rattle.joining.specs.Joining as joining
+use Rattle.joining.specs.Joins.{JoinsAs}
 use Rattle.derivation_files.specs.Checking.{checkingOf}
 use Rattle.derivation_files.specs.Checks.{ChecksAs}
 use Rattle.derivation_files.specs.Accepted.{Accepted, Claims}
@@ -42,6 +45,10 @@ StepRefuses len number place = Refuses (1 ∷ 2 ∷ 3 ∷ []) (5 ∷ 6 ∷ 7 ∷
 -- those of finishing: 4 too
 abbrev pub FinishRefuses : (len number place : ℕ) → Type 0
 FinishRefuses len number place = Refuses (1 ∷ 2 ∷ 3 ∷ 4 ∷ []) (5 ∷ 6 ∷ 7 ∷ []) 0 (min len areaLimit) number place
+
+-- those of joining: 31 at place 0, and reading's own of one of the terms
+abbrev pub JoinRefuses : (term : List ℕ) (number place : ℕ) → Type 0
+JoinRefuses term number place = Refuses (31 ∷ []) (5 ∷ 6 ∷ 7 ∷ []) 0 (length term) number place
 
 -- those of checking: 10 to 13 at line 0, and 14 to 18 at a line of the file
 abbrev pub CheckRefuses : (file : List ℕ) (number line : ℕ) → Type 0
@@ -112,6 +119,10 @@ pub record Demands : Type 0 where
       (first second work first′ second′ work′ : List ℕ) (len₁ len₂ fuel number place : ℕ) →
       comparing.comparingOf first len₁ second len₂ work fuel ≡ comparing.After.after (Reply.refused number place) first′ second′ work′ →
       (FinishRefuses len₁ number place ⊎ FinishRefuses len₂ number place) × (first′ ≡ first) × (second′ ≡ second) × (work′ ≡ work)
+  pub joining-refuses :
+      (f g area area′ : List ℕ) (number place : ℕ) →
+      joining.joiningOf f g area ≡ joining.After.after (Reply.refused number place) area′ →
+      (JoinRefuses f number place ⊎ JoinRefuses g number place) × (area′ ≡ area)
   pub checking-refuses : (file : List ℕ) (number line : ℕ) → checkingOf file ≡ Reply.refused number line → CheckRefuses file number line
   pub matching-refuses :
       (first second : List ℕ) (number line : ℕ) →
@@ -150,6 +161,10 @@ pub record Demands : Type 0 where
   -- a run inside any operation is finishing's
   pub run-finishes :
       (area work : List ℕ) (len fuel : ℕ) (t : Term) (r : Run) → RunOf area len work fuel t r → finishing.finishingOf area len work fuel ≡ finishing.ranFrom t r area work
+  -- joining's reply and what it leaves are those that its relation gives: the join of the two terms, or the first refusal
+  pub joins :
+      (f g area area′ : List ℕ) (reply : Reply ℕ) →
+      (joining.joiningOf f g area ≡ joining.After.after reply area′) ↔ JoinsAs f g area reply area′
   -- checking's reply is the one that its relation gives: the first bad line, and in it the first number
   pub checks : (file : List ℕ) (reply : Reply ℕ) → (checkingOf file ≡ reply) ↔ ChecksAs file reply
   pub accepted-exactly : (file : List ℕ) (n : ℕ) → (checkingOf file ≡ Reply.answered n) ↔ Accepted file n

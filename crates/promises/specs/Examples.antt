@@ -1,5 +1,5 @@
--- The proved examples (REQUIREMENTS, Examples), twelve of the base, nine with bells, seven with counts and four on results, as rows of one table
--- over the operations' definitions.
+-- The proved examples (REQUIREMENTS, Examples), twelve of the base, nine with bells, seven with counts, four on results and ten on joins,
+-- as rows of one table over the operations' definitions.
 -- proofs/Examples.antt has the proof that covers it. Every expected reply was written by hand from the paper; the rules of examples 1 and 3 to 8, which it does not give, were
 -- worked out by hand from figure 1.
 use Prim.Native.Nat.{ℕ, _-_}
@@ -17,20 +17,23 @@ use Rattle.reading.specs.Reading.{readingOf}
 use Rattle.finishing.specs.Finishing.{Ran, After, finishingOf}
 use Rattle.words.specs.Word.{wordsIn}
 use Rattle.counting.specs.Counting as counting
+use Rattle.joining.specs.Joining as joining
 use Rattle.derivation_files.specs.Checking.{checkingOf}
 
 -- a call of an operation
 pub data Call : Type 0 where
   finish : (term : String) (fuel area : ℕ) → Call
   finish-counted : (term : String) (fuel area lent : ℕ) → Call
+  join : (f g : String) (area : ℕ) → Call
   read : (bytes : String) → Call
   check : (file : String) → Call
 
 -- what it answers; of a run also the rules used, in order, and the bytes of the term now in the area; of one with counts what the counts'
--- bytes say
+-- bytes say; of a join the size and the whole area
 pub data Answer : Type 0 where
   ran : Outcome → (count : ℕ) (rules : List ℕ) (term : List ℕ) → Answer
   mixed : (byRule : List ℕ) → Answer
+  joined : (size : ℕ) (area : List ℕ) → Answer
   size : ℕ → Answer
   accepted : (lines : ℕ) → Answer
   refused : (number place : ℕ) → Answer
@@ -42,7 +45,7 @@ abbrev pub ample-fuel : ℕ
 ample-fuel = 1_000
 
 abbrev pub ample-area : ℕ
-ample-area = 64
+ample-area = 128
 
 -- a run of a term: with that fuel and area it has that outcome and count, by those rules, and leaves that term
 abbrev pub runs : (term : String) (fuel area : ℕ) → Outcome → (count : ℕ) (rules : List ℕ) (left : String) → Row
@@ -51,6 +54,14 @@ runs term fuel area outcome count rules left = Row.row (Call.finish term fuel ar
 -- a run whose counts are written into so many bytes, each 255 before
 abbrev pub mixes : (term : String) (fuel area lent : ℕ) (byRule : List ℕ) → Row
 mixes term fuel area lent byRule = Row.row (Call.finish-counted term fuel area lent) (Answer.mixed byRule)
+
+-- a join of two terms in an area of so many bytes, each 255 before: its size, its text, and so many zeros behind it
+abbrev pub joins : (f g : String) (area letters : ℕ) (text : String) (zeros : ℕ) → Row
+joins f g area letters text zeros = Row.row (Call.join f g area) (Answer.joined letters (ascii text ++ replicate zeros 0))
+
+-- a join that is refused
+abbrev pub joins-not : (f g : String) (area number place : ℕ) → Row
+joins-not f g area number place = Row.row (Call.join f g area) (Answer.refused number place)
 
 abbrev pub rows : List Row
 rows =
@@ -87,6 +98,18 @@ rows =
     runs ".B.IIIHJJ" 5 15 Outcome.spent 5 (8 ∷ 6 ∷ 5 ∷ 5 ∷ 6 ∷ []) ".II" ∷
     runs ".B.IIIHJJ" 6 14 Outcome.no-room 0 [] ".B.IIIHJJ" ∷
     runs ".AIHJJAIHJJ" 3 ample-area Outcome.spent 3 (4 ∷ 8 ∷ 6 ∷ []) ".AIHJJ.BAIHJJIJ" ∷
+    joins-not "I" "I" 13 31 0 ∷
+    joins "I" "I" 14 14 "ABIBIIHRJHRRJJ" 0 ∷
+    joins "1" "2" 16 14 "AB1B2IHRJHRRJJ" 2 ∷
+    joins-not "Jx" "xJ" 0 7 1 ∷
+    joins-not "J" "xJ" 0 5 0 ∷
+    joins-not "J" "" 64 6 0 ∷
+    joins-not "J" "J" 0 31 0 ∷
+    runs ".AB1B2IHRJHRRJJ3" ample-fuel ample-area Outcome.finished 11 (4 ∷ 8 ∷ 7 ∷ 6 ∷ 12 ∷ 8 ∷ 7 ∷ 7 ∷ 6 ∷ 12 ∷ 6 ∷ []) "H1H23" ∷
+    runs ".ABAB1B2IHRJHRRJJB3IHRJHRRJJ4" ample-fuel ample-area Outcome.finished 21
+    (4 ∷ 8 ∷ 7 ∷ 6 ∷ 4 ∷ 8 ∷ 7 ∷ 6 ∷ 12 ∷ 8 ∷ 7 ∷ 7 ∷ 6 ∷ 12 ∷ 6 ∷ 8 ∷ 7 ∷ 7 ∷ 6 ∷ 12 ∷ 6 ∷ []) "H1H2H34" ∷
+    runs ".AB1BAB2B3IHRJHRRJJIHRJHRRJJ4" ample-fuel ample-area Outcome.finished 21
+    (4 ∷ 8 ∷ 7 ∷ 6 ∷ 12 ∷ 8 ∷ 7 ∷ 7 ∷ 6 ∷ 4 ∷ 8 ∷ 7 ∷ 6 ∷ 12 ∷ 8 ∷ 7 ∷ 7 ∷ 6 ∷ 12 ∷ 6 ∷ 6 ∷ []) "H1H2H34" ∷
     []
 
 -- an area of that size with the term at its start
@@ -106,6 +129,10 @@ abbrev pub ofCounting : counting.After → Answer
 ofCounting (counting.After.after (Reply.refused number place) r area work counts) = Answer.refused number place
 ofCounting (counting.After.after (Reply.answered done) r area work counts) = Answer.mixed (wordsIn (length ruleNumbers) counts)
 
+abbrev pub ofJoining : joining.After → Answer
+ofJoining (joining.After.after (Reply.refused number place) area) = Answer.refused number place
+ofJoining (joining.After.after (Reply.answered n) area) = Answer.joined n area
+
 abbrev pub ofReading : Reply ℕ → Answer
 ofReading (Reply.refused number place) = Answer.refused number place
 ofReading (Reply.answered n) = Answer.size n
@@ -120,6 +147,7 @@ answer (Call.finish term fuel area) =
     ofFinishing (used (termOf (ascii term)) fuel area) (finishingOf (areaWith (ascii term) area) (length (ascii term)) (replicate area 0) fuel)
 answer (Call.finish-counted term fuel area lent) =
     ofCounting (counting.countingOf (areaWith (ascii term) area) (length (ascii term)) (replicate area 0) fuel (replicate lent 255))
+answer (Call.join f g area) = ofJoining (joining.joiningOf (ascii f) (ascii g) (replicate area 255))
 answer (Call.read bytes) = ofReading (readingOf (ascii bytes))
 answer (Call.check file) = ofChecking (checkingOf (ascii file))
 

@@ -1,4 +1,5 @@
 pub mod Demands
 pub mod Results
 pub mod OtherWays
+pub mod Joined
 pub mod Examples

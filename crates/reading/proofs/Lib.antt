@@ -1,5 +1,6 @@
 pub mod BellBytes
 pub mod Scan
 pub mod Whole
+pub mod Terms
 pub mod Numbers
 pub mod Refusing

@@ -1,4 +1,5 @@
 pub mod Reply
+pub mod Area
 pub mod Reading
 pub mod Answer
 pub mod Arity

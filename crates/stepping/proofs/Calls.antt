@@ -16,7 +16,8 @@ use Rattle.reading.specs.Reply.{Reply, refuseIf, Refuses}
 use Rattle.reading.specs.Reading.{termRead}
 use Rattle.reading.proofs.Numbers.{Unread, widened, term-passed, term-refused}
 use Rattle.reading.proofs.Refusing.{passed, passed-on, refused-by}
-use Rattle.stepping.specs.Areas.{refusedAreas, holding, cleared}
+use Rattle.reading.specs.Area.{holding, cleared}
+use Rattle.stepping.specs.Areas.{refusedAreas}
 use Rattle.stepping.specs.Held.{Holds}
 use Rattle.stepping.specs.Stepping.{After, Stepped, admitted, stepTo, stepNext, stepAdmitted, steppingOf}
 

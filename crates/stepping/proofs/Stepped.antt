@@ -4,7 +4,9 @@ use Prim.Native.Nat.{ℕ, _+_, _-_, _≤_, _<_}
 use native.Mathlib.Omega.{arith}
 use mathlib.Core.Path.{_≡_, refl, sym, _∙_, ap, ap₂}
 use mathlib.Core.Bool.{Bool}
-use mathlib.Core.List.{List, _++_}
+use mathlib.Core.List.{List, [], _∷_, _++_}
+use types.Run.{OneOf}
+use denote.Enum.Declared.{tagOf}
 use borrow.Author.Tests.{lt-ltb, le-ltb, le-leb, lt-leb}
 use lib.Dec.{leb}
 use lib.ListN.{length, take, replicate, length-take}
@@ -12,16 +14,18 @@ use lib.Seq.{length-take-le}
 use Rattle.calculus.specs.Limits.{areaLimit}
 use Rattle.calculus.specs.Term.{Term, text, size}
 use Rattle.calculus.specs.Order.{Next, next}
-use Rattle.calculus.specs.Parse.{termOf}
-use Rattle.calculus.proofs.PrefixCode.{length-text, termOf-text}
-use Rattle.reading.specs.Reply.{Reply}
-use Rattle.reading.specs.Reading.{readingOf, orRefusal, termRead}
-use Rattle.reading.proofs.Whole.{whole-term, refused-none}
+use Rattle.calculus.proofs.PrefixCode.{length-text}
+use Rattle.reading.specs.Reply.{Reply, passedOn}
+use Rattle.reading.specs.Reading.{readingOf, termRead}
+use Rattle.reading.specs.Answer.{answerOf as readingAnswer}
+use Rattle.reading.specs.Area.{holding, cleared}
+use Rattle.reading.specs.declared.Reading.{Reading}
+use Rattle.reading.proofs.Reading.{the-type}
+use Rattle.reading.proofs.Terms.{whole-read, unread}
 use Rattle.rewriting.specs.declared.Rewrite.{Rewrite}
 use Rattle.rewriting.specs.Text.{rewritten}
 use Rattle.reducing.specs.Makes.{Makes, NextBy}
 use Rattle.writing.specs.Back.{Back}
-use Rattle.stepping.specs.Areas.{holding, cleared}
 use Rattle.stepping.specs.Held.{Holds}
 use Rattle.stepping.specs.Stepping.{Stepped, After, stepTo, stepNext, stepAdmitted, steppingOf}
 
@@ -117,25 +121,18 @@ module _ (area : List ℕ) (len : ℕ) (work : List ℕ) where
 
         -- what reading refuses
         pub reading-refused :
-            (number place : ℕ) → Reply.refused number place ≡ readingOf (take len area) →
-            After.after (Reply.refused number place) area work ≡ steppingOf area len work
-        unfolding termRead
-        reading-refused number place e =
-            sym
-            (read-decides
-            (Reply.refused number place)
-            (ap₂ orRefusal (refused-none (take len area) number place (sym e)) (sym e)))
+            (r : Reading) → readingAnswer r ≡ readingOf (take len area) → OneOf (1 ∷ 2 ∷ 3 ∷ []) (tagOf the-type r) →
+            After.after (passedOn (readingAnswer r)) area work ≡ steppingOf area len work
+        reading-refused r e k = sym (read-decides (passedOn (readingAnswer r)) (unread (take len area) r e k))
 
         -- what reading answers
         pub reading-answered :
             (n : ℕ) → Reply.answered n ≡ readingOf (take len area) →
             (t : Term) × Holds area n t × (steppingOf area len work ≡ stepNext t (next t) area work)
-        unfolding termRead
         reading-answered n e =
-            let read = whole-term (take len area) n (sym e) in
-            let t = read .0 in
-            let same : n ≡ len = omega (arith, read .2, length-text t, ap length (read .1), length-take len area) in (
+            let (t, written, sized, read) = whole-read (take len area) n e in
+            let same : n ≡ len = omega (arith, sized, length-text t, ap length written, length-take len area) in (
               t,
-              record { within = omega arith; written = ap (λ (k : ℕ). take k area) same ∙ read .1 },
-              read-decides (Reply.answered t) (ap₂ orRefusal (ap termOf (read .1) ∙ termOf-text t) refl),
+              record { within = omega arith; written = ap (λ (k : ℕ). take k area) same ∙ written },
+              read-decides (Reply.answered t) read,
             )

@@ -8,7 +8,8 @@ use Rattle.calculus.specs.Term.{Term, size}
 use Rattle.calculus.specs.Order.{Next, next}
 use Rattle.reading.specs.Reply.{Reply}
 use Rattle.reading.specs.Reading.{termRead}
-use Rattle.stepping.specs.Areas.{refusedAreas, holding, cleared}
+use Rattle.reading.specs.Area.{holding, cleared}
+use Rattle.stepping.specs.Areas.{refusedAreas}
 
 -- what stepping answers; the size is that of the term now in the area
 pub data Stepped : Type 0 where

@@ -22,6 +22,10 @@ use Rattle.counting.specs.declared.Counted.the-variants as count
 use Rattle.verdicts.specs.Answer as comparing
 use Rattle.verdicts.specs.declared.Comparing.{Comparing}
 use Rattle.verdicts.specs.declared.Comparing.the-variants as compare
+use Rattle.joining.specs.Answer as joining
+use Rattle.joining.specs.declared.Joining.{Joining}
+use Rattle.joining.specs.declared.Joining.the-variants as join
+use Rattle.joining.proofs.Joining.{the-type as Joining-type}
 
 pub reading-refusal : (a : Reading) → OneOf (1 ∷ 2 ∷ 3 ∷ []) (tagOf Reading-type a) → Refusal (reading.answerOf a)
 reading-refusal (Whole size) k = absurd (miss (1 ∷ 2 ∷ 3 ∷ []) 0 tt k)
@@ -46,3 +50,8 @@ counting-refusal e = subst (λ (a : Counted). Refusal (counting.replyOf a)) (sym
 
 pub comparing-refusal : {a : Comparing} {d : Admission} → a ≡ compare.Refused d → Refusal (comparing.answerOf a)
 comparing-refusal e = subst (λ (a : Comparing). Refusal (comparing.answerOf a)) (sym e) refl
+
+pub joining-refusal : (a : Joining) → OneOf (0 ∷ 1 ∷ []) (tagOf Joining-type a) → Refusal (joining.answerOf a)
+joining-refusal (join.Unread reading) k = refl
+joining-refusal join.TooLarge k = refl
+joining-refusal (join.Joined size) k = absurd (miss (0 ∷ 1 ∷ []) 2 tt k)

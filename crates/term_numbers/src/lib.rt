@@ -3,6 +3,7 @@ use admission::Admission;
 use counting::Counted;
 use finishing::Outcome;
 use finishing::Run;
+use joining::Joining;
 use reading::Reading;
 use stepping::Stepping;
 use verdicts::Comparing;
@@ -13,7 +14,8 @@ ghost use Rattle.admission.specs.Answer.{replyOf};
 ghost use Rattle.finishing.specs.Answer.{outcomeOf, ranOf};
 ghost use Rattle.counting.specs.Answer.{replyOf as countedReply};
 ghost use Rattle.verdicts.specs.Answer.{answerOf as comparingAnswer};
-ghost use Rattle.codes.specs.Encoding.{outcomeCode, readNumber, stepNumber, finishNumber, compareNumber};
+ghost use Rattle.joining.specs.Answer.{answerOf as joiningAnswer};
+ghost use Rattle.codes.specs.Encoding.{outcomeCode, readNumber, stepNumber, finishNumber, compareNumber, joinNumber};
 
 // The number of reading's answer.
 pub fn read_number(answer: Reading) -> u64
@@ -78,5 +80,15 @@ pub fn compare_number(answer: Comparing) -> u64
         Comparing::Different => codes::narrow(114, 0, 0),
         Comparing::Undecided => codes::narrow(115, 0, 0),
         _ => codes::wide(verdicts::number(answer), verdicts::place(answer)),
+    }
+}
+
+// The number of joining's answer.
+pub fn join_number(answer: Joining) -> u64
+    ensures { λ r. ⌜ r ≡ joinNumber (joiningAnswer answer) ⌝ }
+{
+    match answer {
+        Joining::Joined(size) => codes::narrow(160, 0, size),
+        _ => codes::wide(joining::number(answer), joining::place(answer)),
     }
 }

@@ -13,7 +13,7 @@ use Rattle.calculus.specs.Term.{Term, text, size}
 use Rattle.calculus.specs.Run.{Outcome, Run, run, outcome, reached}
 use Rattle.calculus.proofs.PrefixCode.{length-text}
 use Rattle.reading.specs.Reply.{Reply, passedOn}
-use Rattle.stepping.specs.Areas.{holding, cleared}
+use Rattle.reading.specs.Area.{holding, cleared}
 use Rattle.admission.specs.Admission.{admitted, admission}
 use Rattle.admission.specs.Answer.{replyOf}
 use Rattle.admission.specs.declared.Admission.{Admission}

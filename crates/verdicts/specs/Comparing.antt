@@ -7,7 +7,7 @@ use Rattle.slices.specs.Same.{same}
 use Rattle.calculus.specs.Term.{Term, text}
 use Rattle.calculus.specs.Run.{Outcome, Run, run, outcome, reached}
 use Rattle.reading.specs.Reply.{Reply}
-use Rattle.stepping.specs.Areas.{holding, cleared}
+use Rattle.reading.specs.Area.{holding, cleared}
 use Rattle.admission.specs.Admission.{admitted}
 
 -- what comparing answers

@@ -2,7 +2,7 @@
 //!
 //!   bench [PICTURE.svg]     every table, and a chart where a path is given
 //!   bench --dear [STEPS]    every run of finishing that was tried to find the dearest, with so much fuel or with all
-//!   bench --only TABLE      one table: growth, small, short, counting, checking, stack or dear
+//!   bench --only TABLE      one table: growth, small, short, counting, joining, checking, stack or dear
 //!   bench --rows WORD       the rows of the first table whose names have this word
 //!
 //! Both are built for release. Each call starts from the term with zeros behind it and a zeroed work area. Built with
@@ -15,6 +15,7 @@ mod counting;
 mod dear;
 mod dear_runs;
 mod growth;
+mod joining;
 mod reducing;
 mod repeating;
 mod short_runs;
@@ -28,10 +29,11 @@ use reducing::Timed;
 use table::Table;
 
 /// The tables behind the first two, each with its name.
-const TABLES: [(&str, fn() -> Table); 6] = [
+const TABLES: [(&str, fn() -> Table); 7] = [
     ("small", small::table),
     ("short", short_runs::table),
     ("counting", counting::table),
+    ("joining", joining::table),
     ("checking", checking::table),
     ("stack", stack::table),
     ("dear", dear::table),

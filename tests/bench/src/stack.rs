@@ -121,9 +121,18 @@ fn comparing(lent: Lending) -> String {
     })
 }
 
+/// A term joined with itself.
+fn joining(lent: Lending) -> String {
+    let mut area = vec![0; 2 * lent.text.len() + 12];
+    used(move || {
+        Linked.join(&lent.text, &lent.text, &mut area);
+    })
+}
+
 fn term_row(lent: Lending) -> Vec<String> {
     let (name, letters) = (lent.name.clone(), lent.text.len().to_string());
-    let used = [reading, stepping, finishing, counting, comparing].map(|operation| operation(lent.clone()));
+    let used =
+        [reading, stepping, finishing, counting, comparing, joining].map(|operation| operation(lent.clone()));
     [name, letters].into_iter().chain(used).collect()
 }
 
@@ -160,7 +169,7 @@ fn file_row(name: &str, file: Vec<u8>) -> Vec<String> {
         Linked.match_claims(&other, &other);
     });
     let none = || "-".to_string();
-    vec![name.to_string(), bytes, none(), none(), checking, none(), matching]
+    vec![name.to_string(), bytes, none(), none(), checking, none(), matching, none()]
 }
 
 pub fn table() -> Table {
@@ -178,6 +187,7 @@ pub fn table() -> Table {
             "finishing or checking",
             "counted",
             "comparing or matching",
+            "joining",
         ],
         rows,
     )

@@ -1,4 +1,4 @@
-//! The engine's seven functions as `include/controller.h` declares them, on slices.
+//! The engine's eight functions as `include/controller.h` declares them, on slices.
 
 use harness::subject::Controller;
 use second::comparing::Lent;
@@ -34,6 +34,14 @@ extern "C" {
         work: *mut u8,
         work_size: usize,
         fuel: u64,
+    ) -> u64;
+    fn controller_join(
+        f: *const u8,
+        f_size: usize,
+        g: *const u8,
+        g_size: usize,
+        area: *mut u8,
+        area_size: usize,
     ) -> u64;
     fn controller_check(file: *const u8, file_size: usize) -> u64;
     fn controller_match(first: *const u8, first_size: usize, second: *const u8, second_size: usize) -> u64;
@@ -85,6 +93,10 @@ impl Controller for Linked {
                 fuel,
             )
         }
+    }
+
+    fn join(&self, f: &[u8], g: &[u8], area: &mut [u8]) -> u64 {
+        unsafe { controller_join(f.as_ptr(), f.len(), g.as_ptr(), g.len(), area.as_mut_ptr(), area.len()) }
     }
 
     fn check(&self, file: &[u8]) -> u64 {

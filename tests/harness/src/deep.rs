@@ -201,6 +201,48 @@ fn readings(suite: &mut Suite, label: &str, subject: impl Controller + Sync + Co
     }
 }
 
+/// Texts of a million letters, and of more than 2^24; what is said of each is what reading says.
+fn million_letters() -> Vec<(Named, &'static str)> {
+    const MILLION: usize = 1_000_000;
+    const MORE: usize = 17_000_000;
+    vec![
+        (("R^1000000 J", index(MILLION)), "whole"),
+        (("H^1000000 J^1000001", nested("H", MILLION, "J", MILLION + 1)), "whole"),
+        ((".1 a million times, T", joined(&[&repeated(".1", MILLION), b"T"])), "whole"),
+        (("R^17000000 J", index(MORE)), "whole"),
+        (("R^17000000", repeated("R", MORE)), "6@17000000"),
+        (("R^17000000 x", joined(&[&repeated("R", MORE), b"x"])), "5@17000000"),
+        (("R^17000000 J J", joined(&[&index(MORE), b"J"])), "7@17000001"),
+    ]
+}
+
+/// The join, as the requirements spell it, of two texts of so many letters; or what reading says of the first that
+/// is no term.
+fn joined_deep(subject: impl Controller + Sync, f: &(Named, &str), g: &(Named, &str)) -> Outcome {
+    let ((_, f), of_f) = f;
+    let ((_, g), of_g) = g;
+    let after = joined(&[b"AB", f, b"B", g, b"IHRJHRRJJ"]);
+    for (size, whole) in [(after.len() - 1, "31@0"), (after.len(), "joined"), (after.len() + 9, "joined")] {
+        let join = Join { f: f.clone(), g: g.clone(), area: vec![b'#'; size] };
+        let words = [of_f, of_g].into_iter().find(|words| words.contains('@')).unwrap_or(&whole);
+        let area = if words.contains('@') { join.area.clone() } else { padded(&after, size) };
+        let expected = (from_words(words, after.len()), area);
+        on_advised_stack(|| demand_join(&subject, &join, &expected))?;
+    }
+    Ok(())
+}
+
+/// Joining of a million letters and more.
+fn joins(suite: &mut Suite, label: &str, subject: impl Controller + Sync + Copy) {
+    let texts = million_letters();
+    let (whole, short) = (&texts[0], &(("J", b"J".to_vec()), "whole"));
+    for text in &texts {
+        let name = format!("{label} deep joining: {}", text.0 .0);
+        suite.test(&format!("{name} with a million R"), || joined_deep(subject, text, whole));
+        suite.test(&format!("{name} behind J"), || joined_deep(subject, short, text));
+    }
+}
+
 /// Matching of a file with deep terms and types with itself.
 fn matches(suite: &mut Suite, label: &str, subject: impl Controller + Sync + Copy) {
     for row in large_files() {
@@ -216,6 +258,7 @@ pub fn all(suite: &mut Suite, label: &str, subject: impl Controller + Sync + Cop
     reductions(suite, label, subject, 1_000_000, predict_fast);
     counts(suite, label, subject, predict_counted::<Machine>);
     comparisons(suite, label, subject);
+    joins(suite, label, subject);
     files(suite, label, subject);
     matches(suite, label, subject);
 }

@@ -18,7 +18,12 @@ fn with_huge(size: usize, content: &[u8], body: impl FnOnce(&mut [u8]) -> Outcom
 }
 
 fn replied(reply: u64, words: &str) -> Outcome {
-    equal("reply", in_words(reply), in_words(from_words(words, 0)))
+    replied_with(reply, words, 0)
+}
+
+/// The reply that these words name, with this size.
+fn replied_with(reply: u64, words: &str, size: usize) -> Outcome {
+    equal("reply", in_words(reply), in_words(from_words(words, size)))
 }
 
 const LINE: &[u8] = b"1\tI\t1\tI\t-\t-\n";
@@ -62,6 +67,15 @@ pub fn all(suite: &mut Suite, label: &str, subject: impl Controller) {
             replied(subject.compare(first, second, &mut [7; 5], 9), "1@0")
         })
     });
+    suite.test(&format!("{label} joining: 2^32 and 1 bytes for f, a whole term first"), || {
+        with_huge(OVER + 1, b"J", |f| replied(subject.join(f, b"x", &mut [7; 64]), "7@1"))
+    });
+    suite.test(&format!("{label} joining: 2^32 and 1 bytes for g, a whole term first"), || {
+        with_huge(OVER + 1, b"RJ", |g| replied(subject.join(b"J", g, &mut [7; 64]), "7@2"))
+    });
+    suite.test(&format!("{label} joining: an area of 2^32 and 1 bytes and a bad g"), || {
+        with_huge(OVER + 1, b"w", |area| replied(subject.join(b"J", b"Rx", area), "5@1"))
+    });
     suite.test(&format!("{label} checking: a file of 2^32 and 12 bytes"), || {
         with_huge(OVER + LINE.len(), LINE, |file| replied(subject.check(file), "10@0"))
     });
@@ -70,16 +84,49 @@ pub fn all(suite: &mut Suite, label: &str, subject: impl Controller) {
     });
 }
 
+/// So many letters at a time make up what is longer than 2^32.
+const PIECE: usize = 64 << 20;
+
 /// 2^32 and 5 letters `R` and one byte that is no letter: a place that no 32 bits hold.
 fn read_far(subject: &dyn Controller) -> Outcome {
-    const PIECE: usize = 64 << 20;
     let mut pages = Pages::repeated(&vec![b'R'; PIECE], OVER / PIECE + 1)?;
     let slice = &mut pages.bytes()[..OVER + 6];
     slice[OVER + 5] = b'x';
     replied(subject.read(slice), "5@4294967301")
 }
 
+/// An index of 2^32 and 6 letters as `f` and as `g`: its join with `J` has no room in 64 bytes. Then a byte that is no
+/// letter stands in the place of its last letter.
+fn join_far(subject: &dyn Controller) -> Outcome {
+    let mut pages = Pages::repeated(&vec![b'R'; PIECE], OVER / PIECE + 1)?;
+    let index = &mut pages.bytes()[..OVER + 6];
+    let mut area = [7; 64];
+    index[OVER + 5] = b'J';
+    replied(subject.join(index, b"J", &mut area), "31@0")?;
+    index[OVER + 5] = b'x';
+    replied(subject.join(b"J", index, &mut area), "5@4294967301")?;
+    equal_bytes("the area", &area, &[7; 64])
+}
+
+/// A join of 2^32 and 2^26 letters, whose reply has the lowest 32 bits of its size. The area's pages are one
+/// piece again and again, so that it takes no more memory than that; what they hold in the end is not looked at.
+fn joined_far(subject: &dyn Controller) -> Outcome {
+    let mut pages = Pages::repeated(&vec![b'R'; PIECE], OVER / PIECE + 1)?;
+    let mut area = Pages::folded(PIECE, OVER / PIECE + 1)?;
+    let index = &mut pages.bytes()[..OVER + PIECE - 13];
+    index[OVER + PIECE - 14] = b'J';
+    replied_with(subject.join(index, b"J", area.bytes()), "joined", PIECE)
+}
+
 /// Reading of over 2^32 letters.
 pub fn far(suite: &mut Suite, label: &str, subject: impl Controller) {
     suite.test(&format!("{label} reading: 2^32 and 5 letters R, and x"), || read_far(&subject));
+}
+
+/// Joining of over 2^32 letters.
+pub fn far_joins(suite: &mut Suite, label: &str, subject: impl Controller) {
+    suite.test(&format!("{label} joining: a size of more than 32 bits"), || joined_far(&subject));
+    suite.test(&format!("{label} joining: an index of 2^32 and 6 letters, and one that is none"), || {
+        join_far(&subject)
+    });
 }

@@ -217,6 +217,60 @@ pub fn demand_pair(subject: &dyn Controller, pair: &Pair, expected: &Compared) -
     found.map_err(|what| format!("{what}; on {one} and {two}, fuel {}", pair.fuel))
 }
 
+/// Two texts, and an area for their join.
+#[derive(Clone)]
+pub struct Join {
+    pub f: Vec<u8>,
+    pub g: Vec<u8>,
+    pub area: Vec<u8>,
+}
+
+/// What joining replies, and the bytes of the area afterwards; the two texts stay as they are.
+pub type Joined = (u64, Vec<u8>);
+
+/// What the second implementation replies to a join.
+pub fn predict_join(join: &Join) -> Joined {
+    let mut area = join.area.clone();
+    (Second::<Plain>::new().join(&join.f, &join.g, &mut area), area)
+}
+
+/// Calls joining, and demands the reply and every lent byte.
+pub fn demand_join(subject: &dyn Controller, join: &Join, expected: &Joined) -> Outcome {
+    let mut lent = [&join.f, &join.g, &join.area].map(|bytes| Guarded::new(bytes));
+    let [f, g, area] = &mut lent;
+    let reply = subject.join(f.area(), g.area(), area.area());
+    let found = equal("reply", in_words(reply), in_words(expected.0))
+        .and_then(|()| lent[0].expect("f", &join.f))
+        .and_then(|()| lent[1].expect("g", &join.g))
+        .and_then(|()| lent[2].expect("area", &expected.1));
+    found.map_err(|what| format!("{what}; on {}", joined_in_words(join)))
+}
+
+/// The same with one buffer for both texts, which are equal.
+pub fn demand_join_in_one_buffer(subject: &dyn Controller, join: &Join, expected: &Joined) -> Outcome {
+    let (mut text, mut area) = (Guarded::new(&join.f), Guarded::new(&join.area));
+    let both: &[u8] = text.area();
+    let reply = subject.join(both, both, area.area());
+    let found = equal("reply", in_words(reply), in_words(expected.0))
+        .and_then(|()| text.expect("f and g", &join.g))
+        .and_then(|()| area.expect("area", &expected.1));
+    found.map_err(|what| format!("{what}; in one buffer, on {}", joined_in_words(join)))
+}
+
+fn joined_in_words(join: &Join) -> String {
+    format!("f {} g {} area {}", shown(&join.f), shown(&join.g), join.area.len())
+}
+
+/// Demands that joining replies as the second implementation does, also with one buffer where the texts are equal.
+pub fn agree_join(subject: &dyn Controller, join: &Join) -> Outcome {
+    let expected = predict_join(join);
+    demand_join(subject, join, &expected)?;
+    match join.f == join.g {
+        true => demand_join_in_one_buffer(subject, join, &expected),
+        false => Ok(()),
+    }
+}
+
 /// Calls checking on guarded bytes, and demands the reply and that no byte was changed.
 pub fn demand_check(subject: &dyn Controller, file: &[u8], reply: u64) -> Outcome {
     let mut lent = Guarded::new(file);

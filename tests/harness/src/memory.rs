@@ -11,6 +11,7 @@ extern "C" {
 }
 
 const READ_WRITE: i32 = 3;
+const SHARED: i32 = 0x01;
 const PRIVATE: i32 = 0x02;
 const FIXED: i32 = 0x10;
 const ANONYMOUS: i32 = 0x20;
@@ -36,6 +37,15 @@ impl Pages {
     /// The piece, whose length is a multiple of a page's, so many times one behind the other. It is held once;
     /// a page that is written becomes one of its own.
     pub fn repeated(piece: &[u8], times: usize) -> Result<Self, String> {
+        Pages::mapped(piece, times, PRIVATE)
+    }
+
+    /// So many pieces of this size that are one and the same memory: what is written to one is written to all.
+    pub fn folded(size: usize, times: usize) -> Result<Self, String> {
+        Pages::mapped(&vec![0; size], times, SHARED)
+    }
+
+    fn mapped(piece: &[u8], times: usize, sharing: i32) -> Result<Self, String> {
         let pages = Pages::zeroed(piece.len() * times)?;
         let descriptor = unsafe { memfd_create(c"piece".as_ptr(), 0) };
         if descriptor < 0 {
@@ -45,7 +55,7 @@ impl Pages {
         file.write_all(piece).map_err(|error| error.to_string())?;
         for place in 0..times {
             let start = unsafe { pages.start.add(place * piece.len()) };
-            let mapped = unsafe { mmap(start, piece.len(), READ_WRITE, PRIVATE | FIXED, file.as_raw_fd(), 0) };
+            let mapped = unsafe { mmap(start, piece.len(), READ_WRITE, sharing | FIXED, file.as_raw_fd(), 0) };
             if mapped != start {
                 return Err(format!("piece {place} cannot be mapped"));
             }

@@ -16,6 +16,7 @@ pub const SAME: u64 = 113;
 pub const DIFFERENT: u64 = 114;
 pub const UNDECIDED: u64 = 115;
 pub const ACCEPTED: u64 = 120;
+pub const JOINED: u64 = 160;
 pub const MATCH: u64 = 180;
 pub const NO_MATCH: u64 = 181;
 
@@ -101,6 +102,11 @@ pub fn of_verdict(reply: Result<Verdict, Refusal>) -> u64 {
     }
 }
 
+/// A join may have a size of more than 32 bits: the lowest are told.
+pub fn of_join(reply: Result<usize, Refusal>) -> u64 {
+    reply.map_or_else(of_refusal, |size| pack(JOINED, 0, size % (1 << 32)))
+}
+
 pub fn of_match(reply: Result<bool, Refusal>) -> u64 {
     match reply {
         Ok(true) => pack(MATCH, 0, 0),
@@ -128,6 +134,7 @@ pub fn from_words(words: &str, length: usize) -> u64 {
         ("same", _) => pack(SAME, 0, 0),
         ("different", _) => pack(DIFFERENT, 0, 0),
         ("undecided", _) => pack(UNDECIDED, 0, 0),
+        ("joined", _) => pack(JOINED, 0, length),
         ("match", _) => pack(MATCH, 0, 0),
         ("no match", _) => pack(NO_MATCH, 0, 0),
         (_, "whole") => placed(WHOLE, value() as usize),

@@ -29,7 +29,7 @@ fn never_finished(subject: &dyn Controller) -> Outcome {
 }
 
 /// Demands that the term is finished, with all fuel and room, as this normal term in no fewer steps than these.
-fn demand_result(subject: &dyn Controller, text: &[u8], normal: &Term, fewest: u64) -> Outcome {
+pub fn demand_result(subject: &dyn Controller, text: &[u8], normal: &Term, fewest: u64) -> Outcome {
     let (call, normal) = (call(text, MAX_AREA), normal.text());
     let (mut area, mut work) = (Guarded::new(&call.area), Guarded::new(&call.work));
     let reply = subject.finish(area.area(), call.term, work.area(), MAX_FUEL);
@@ -81,7 +81,8 @@ fn parts_without_result(subject: &dyn Controller) -> Outcome {
     equal("more than 100 terms were decided", decided > 100, true)
 }
 
-fn random_of_sizes(random: &mut Random, low: usize, high: usize) -> Term {
+/// A random term of a size between these.
+pub fn random_of_sizes(random: &mut Random, low: usize, high: usize) -> Term {
     let size = random.between(low, high);
     random_of_size(random, size)
 }

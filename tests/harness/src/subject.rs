@@ -6,16 +6,18 @@ use second::comparing::{self, Lent};
 use second::counting;
 use second::finish_line;
 use second::finishing;
+use second::joining;
 use second::stepping::{self, Reducer};
 use std::marker::PhantomData;
 
-/// The seven functions of `include/controller.h`.
+/// The eight functions of `include/controller.h`.
 pub trait Controller {
     fn read(&self, slice: &[u8]) -> u64;
     fn step(&self, area: &mut [u8], term: usize, work: &mut [u8]) -> u64;
     fn finish(&self, area: &mut [u8], term: usize, work: &mut [u8], fuel: u64) -> u64;
     fn finish_counted(&self, area: &mut [u8], term: usize, work: &mut [u8], fuel: u64, counts: &mut [u8]) -> u64;
     fn compare(&self, first: Lent, second: Lent, work: &mut [u8], fuel: u64) -> u64;
+    fn join(&self, f: &[u8], g: &[u8], area: &mut [u8]) -> u64;
     fn check(&self, file: &[u8]) -> u64;
     fn match_claims(&self, first: &[u8], second: &[u8]) -> u64;
 }
@@ -69,6 +71,10 @@ impl<R: Reducer> Controller for Second<R> {
 
     fn compare(&self, first: Lent, second: Lent, work: &mut [u8], fuel: u64) -> u64 {
         of_verdict(comparing::compare::<R>(first, second, work, fuel))
+    }
+
+    fn join(&self, f: &[u8], g: &[u8], area: &mut [u8]) -> u64 {
+        of_join(joining::join_texts(f, g, area))
     }
 
     fn check(&self, file: &[u8]) -> u64 {

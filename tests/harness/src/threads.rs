@@ -19,6 +19,7 @@ enum Asked {
     Run(Call, Option<u64>, Expected),
     Count(Counted, AfterCounted),
     Compare(Pair, Compared),
+    Join(Join, Joined),
     Read(Vec<u8>, u64),
     Check(Vec<u8>, u64),
     Match([Vec<u8>; 2], u64),
@@ -30,6 +31,7 @@ impl Asked {
             Asked::Run(call, fuel, expected) => demand(subject, call, *fuel, expected),
             Asked::Count(counted, expected) => demand_counted(subject, counted, expected),
             Asked::Compare(pair, expected) => demand_pair(subject, pair, expected),
+            Asked::Join(join, expected) => demand_join(subject, join, expected),
             Asked::Read(slice, reply) => demand_read(subject, slice, *reply),
             Asked::Check(file, reply) => demand_check(subject, file, *reply),
             Asked::Match(files, reply) => demand_match(subject, [&files[0], &files[1]], *reply),
@@ -60,7 +62,14 @@ fn compare(random: &mut Random, text: &[u8]) -> Asked {
     Asked::Compare(pair, expected)
 }
 
-/// One thread's calls: all seven functions in turn.
+fn join(random: &mut Random, text: &[u8]) -> Asked {
+    let (more, area) = (random.below(100), 2 * text.len() + 12);
+    let join = Join { f: text.to_vec(), g: text.to_vec(), area: random.rubbish(area + more) };
+    let expected = predict_join(&join);
+    Asked::Join(join, expected)
+}
+
+/// One thread's calls: all eight functions in turn.
 fn calls(seed: u64) -> Vec<Asked> {
     let mut random = Random::new(seed);
     let second = Second::<Plain>::new();
@@ -73,6 +82,7 @@ fn calls(seed: u64) -> Vec<Asked> {
         asked.push(run(&mut random, &text, Some(300)));
         asked.push(count(&mut random, &text));
         asked.push(compare(&mut random, &text));
+        asked.push(join(&mut random, &text));
         asked.push(Asked::Read(text.clone(), second.read(&text)));
         asked.push(Asked::Check(file.clone(), second.check(&file)));
         let reply = second.match_claims(&file, &file);

@@ -3,6 +3,7 @@
 use crate::reply::*;
 use crate::subject::Controller;
 use crate::wrong_ends::{self, Damage};
+use crate::wrong_joins::{self, Joining, Slip};
 use second::comparing::Lent;
 use std::sync::atomic::{AtomicU64, Ordering};
 
@@ -41,6 +42,10 @@ pub struct Bug {
     count: fn(&dyn Controller, Lending) -> u64,
     /// What becomes of the counts of an answer, by the reply and the bytes that stood there before.
     stored: fn(u64, &[u8], &mut [u8]),
+    /// What a call of joining comes to.
+    join: Slip,
+    /// Is it to be seen at sizes past 2^32 alone?
+    pub far: bool,
 }
 
 /// No bug.
@@ -53,6 +58,8 @@ const NONE: Bug = Bug {
     finish,
     count,
     stored: |_, _, _| (),
+    join: wrong_joins::join,
+    far: false,
 };
 
 fn kept(_: u64, _: &mut [u8], _: &mut [u8]) {}
@@ -83,6 +90,14 @@ const fn counts(name: &'static str, count: fn(&dyn Controller, Lending) -> u64) 
 
 const fn stores(name: &'static str, stored: fn(u64, &[u8], &mut [u8])) -> Bug {
     Bug { name, stored, ..NONE }
+}
+
+const fn joins(name: &'static str, join: Slip) -> Bug {
+    Bug { name, join, ..NONE }
+}
+
+const fn joins_far(name: &'static str, join: Slip) -> Bug {
+    Bug { name, join, far: true, ..NONE }
 }
 
 /// What becomes of the replies with one of these codes; the others stay.
@@ -296,7 +311,7 @@ fn counts_left_without_room(reply: u64, before: &[u8], counts: &mut [u8]) {
     }
 }
 
-static BUGS: [Bug; 46] = [
+static BUGS: [Bug; 69] = [
     replies("5 one place too far", |reply| changed(reply, &[5], |reply| reply + ONE)),
     replies("places of 24 bits", |reply| changed(reply, &[5, 6, 7], |reply| reply & 0xffff_ffff)),
     replies("a size read of 24 bits", |reply| changed(reply, &[WHOLE], |reply| reply & 0xffff_ffff)),
@@ -352,6 +367,31 @@ static BUGS: [Bug; 46] = [
     stores("the byte behind the counts cleared", byte_behind_the_counts_cleared),
     stores("counts left as they were where no step was made", counts_left_without_a_step),
     stores("counts left as they were where there is no room", counts_left_without_room),
+    replies("joined answered by 161", |reply| exchanged(reply, JOINED, JOINED + 1)),
+    replies("the size of a join without its frame", |reply| {
+        changed(reply, &[JOINED], |reply| reply - 12 * ONE_LETTER)
+    }),
+    replies("a size of a join of 16 bits", |reply| changed(reply, &[JOINED], |reply| reply & 0xffff_ffff_ffff)),
+    joins("f and g exchanged in a join", wrong_joins::terms_exchanged),
+    joins("the indices of f and g exchanged in a join", wrong_joins::indices_exchanged),
+    joins("a join that drops its argument", wrong_joins::argument_dropped),
+    joins("a join that fills its area refused", wrong_joins::full_area_refused),
+    joins("g refused ahead of f", wrong_joins::second_term_first),
+    joins("a join's room tested ahead of reading", wrong_joins::room_first),
+    joins("a join's room tested ahead of reading g", wrong_joins::room_before_the_second_term),
+    joins("places in g counted on from f", wrong_joins::places_counted_on),
+    joins("bytes behind a join left", wrong_joins::bytes_behind_left),
+    joins("bytes behind a join left from 16,384 on", wrong_joins::bytes_far_behind_left),
+    joins("a refused join clears the area", wrong_joins::cleared_by_a_refusal),
+    joins("a join without room written as far as it goes", wrong_joins::written_as_far_as_it_goes),
+    joins("a join of more than 16,384 letters refused", wrong_joins::large_join_refused),
+    joins("an area of more than 16,384 bytes refused by joining", wrong_joins::large_area_refused),
+    joins("one buffer for f and g refused", wrong_joins::one_buffer_refused),
+    joins("I left out of a join", wrong_joins::identity_left_out),
+    joins("a join reduced by a step", wrong_joins::reduced_by_a_step),
+    joins("the text of f written by joining", wrong_joins::first_text_written),
+    joins_far("the size of a join reckoned in 32 bits", wrong_joins::size_reckoned_in_32_bits),
+    joins_far("a size of more than 32 bits told as the largest", wrong_joins::largest_size_told),
 ];
 
 pub fn bugs() -> &'static [Bug] {
@@ -399,6 +439,12 @@ impl<C: Controller> Controller for Wrong<C> {
 
     fn compare(&self, first: Lent, second: Lent, work: &mut [u8], fuel: u64) -> u64 {
         (self.bug.reply)(self.subject.compare(first, second, work, fuel))
+    }
+
+    fn join(&self, f: &[u8], g: &[u8], area: &mut [u8]) -> u64 {
+        let reply = (self.bug.join)(&self.subject, Joining { f, g, area: &mut *area });
+        (self.bug.bytes)(reply, area, &mut []);
+        (self.bug.reply)(reply)
     }
 
     fn check(&self, file: &[u8]) -> u64 {

@@ -168,6 +168,10 @@ impl Controller for Batches {
         of_verdict(self.compared(first, second, work, fuel))
     }
 
+    fn join(&self, f: &[u8], g: &[u8], area: &mut [u8]) -> u64 {
+        Second::<Machine>::new().join(f, g, area)
+    }
+
     fn check(&self, file: &[u8]) -> u64 {
         Second::<Machine>::new().check(file)
     }

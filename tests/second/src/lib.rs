@@ -11,6 +11,7 @@ pub mod comparing;
 pub mod counting;
 pub mod finish_line;
 pub mod finishing;
+pub mod joining;
 pub mod machine;
 pub mod order;
 pub mod plain;

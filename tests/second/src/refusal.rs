@@ -24,6 +24,7 @@ pub const UNKNOWN_RULE: u8 = 16;
 pub const BAD_PREMISE: u8 = 17;
 pub const NOT_AN_INSTANCE: u8 = 18;
 pub const BAD_LINE_OF_INPUT: u8 = 19;
+pub const JOIN_TOO_LARGE: u8 = 31;
 
 /// The refusal `number` at `place`.
 pub fn at(number: u8, place: usize) -> Refusal {

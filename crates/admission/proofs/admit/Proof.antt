@@ -2,7 +2,7 @@
 use mathlib.Core.Path.{sym}
 use borrow.Author.Needs.{needs}
 use lib.Seq.{length-take-le}
-use Rattle.admission.proofs.Admitting.{area-refused, work-refused, length-refused, fuel-refused, unread, whole}
+use Rattle.admission.proofs.Admitting.{area-refused, work-refused, length-refused, fuel-refused, reading-refused, whole}
 use Rattle.admission.proofs.admit.Statement.{statement}
 use Rattle.admission.proofs.admit.Tie as tie
 
@@ -51,8 +51,8 @@ returns-5 c =
     let at-if2 = at-if3 .before in
     let at-if1 = at-if2 .before in
     let start = at-if1 .before .before .before in
-    unread (start .args .area .now) (start .args .len) (start .args .work .now) (start .args .fuel) (at-if1 .if1 .left) (at-if2 .if2 .left)
-    (at-if3 .if3 .left) (at-if4 .if4 .left) (c .before .read .result) (c .before .read .ensures) (c .match .keys2)
+    reading-refused (start .args .area .now) (start .args .len) (start .args .work .now) (start .args .fuel) (at-if1 .if1 .left)
+    (at-if2 .if2 .left) (at-if3 .if3 .left) (at-if4 .if4 .left) (c .before .read .result) (c .before .read .ensures) (c .match .keys2)
 
 returns-6 : tie.Need-returns-6
 returns-6 c =

@@ -1,36 +1,12 @@
 -- `stepping::step` meets its contract: each refusal is a law of `Stepped`, and what reading answers is handed to `advance`. Assumes
 -- nothing.
-use Prim.Native.Nat.{ℕ, _≤_}
-use native.Mathlib.Omega.{arith}
-use mathlib.Core.Path.{_≡_, sym, _∙_, ap}
-use mathlib.Core.Logic.{⊎-elim}
-use mathlib.Core.List.{List, [], _∷_}
-use types.Run.{OneOf}
-use denote.Enum.Declared.{tagOf}
+use mathlib.Core.Path.{sym, _∙_, ap}
 use borrow.Author.Needs.{needs}
-use lib.ListN.{length, take}
 use lib.Seq.{length-take-le}
-use Rattle.calculus.specs.Limits.{areaLimit}
-use Rattle.reading.specs.declared.Reading.{Reading}
-use Rattle.reading.specs.declared.Reading.the-variants.{Whole, NoLetter, NotWhole, Beyond}
-use Rattle.reading.proofs.Reading.{the-type}
-use Rattle.reading.specs.Reply.{passedOn}
-use Rattle.reading.specs.Reading.{readingOf}
 use Rattle.reading.specs.Answer.{answerOf as readingAnswer}
-use Rattle.stepping.specs.Stepping.{After, steppingOf}
 use Rattle.stepping.proofs.Stepped.{area-refused, work-refused, length-refused, reading-refused, reading-answered}
 use Rattle.stepping.proofs.step.Statement.{statement}
 use Rattle.stepping.proofs.step.Tie as tie
-
--- what is not whole is refused
-unread :
-    (area : List ℕ) (len : ℕ) (work : List ℕ) → length area ≤ areaLimit → length area ≤ length work → len ≤ length area →
-    (r : Reading) → readingAnswer r ≡ readingOf (take len area) → OneOf (1 ∷ 2 ∷ 3 ∷ []) (tagOf the-type r) →
-    After.after (passedOn (readingAnswer r)) area work ≡ steppingOf area len work
-unread area len work short enough within (Whole n) e k = absurd (⊎-elim (λ h. omega arith) (⊎-elim (λ h. omega arith) (λ h. omega arith)) k)
-unread area len work short enough within (NoLetter place) e k = reading-refused area len work short enough within 5 place e
-unread area len work short enough within (NotWhole place) e k = reading-refused area len work short enough within 6 place e
-unread area len work short enough within (Beyond place) e k = reading-refused area len work short enough within 7 place e
 
 returns : tie.Need-returns
 returns c =
@@ -76,8 +52,8 @@ returns-4 c =
     let at-if1 = at-if2 .before in
     let start = at-if1 .before .before .before in
     let a = start .args in
-    unread (a .area .now) (a .len) (a .work .now) (at-if1 .if1 .left) (at-if2 .if2 .left) (at-if3 .if3 .left) (c .before .read .result)
-    (c .before .read .ensures) (c .match .keys2)
+    reading-refused (a .area .now) (a .len) (a .work .now) (at-if1 .if1 .left) (at-if2 .if2 .left) (at-if3 .if3 .left)
+    (c .before .read .result) (c .before .read .ensures) (c .match .keys2)
 
 advance-requires : tie.Need-advance-requires
 advance-requires c κs =

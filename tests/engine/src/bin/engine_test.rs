@@ -4,7 +4,8 @@
 //!   engine_test --batches    the long runs alone
 //!   engine_test --bugs       the names of the bugs that can be planted in the engine's replies, and of the slips in
 //!                            an engine of the tests' own that steps in batches
-//!   engine_test --bug NAME   every test on the engine with that bug; the long runs on the one with that slip
+//!   engine_test --bug NAME   every test on the engine with that bug; the long runs on the one with that slip; the
+//!                            joins past 2^32 on the one whose bug shows there alone
 
 use engine::Linked;
 use harness::lent::predict_fast;
@@ -13,8 +14,8 @@ use harness::suite::Suite;
 use harness::wrong::{bugs, Wrong};
 use harness::wrong_batches::{Batches, SLIPS};
 use harness::{
-    check_tests, compare_tests, count_tests, deep, end_tests, finish_tests, huge, machine_tests, match_tests,
-    read_tests, result_tests, small_tests, step_tests, threads,
+    check_tests, compare_tests, count_tests, deep, end_tests, finish_tests, huge, join_laws, join_tests,
+    machine_tests, match_tests, read_tests, result_tests, small_tests, step_tests, threads,
 };
 
 /// What was written by hand: quick, and enough to see most of the bugs that are planted.
@@ -25,11 +26,13 @@ fn known(suite: &mut Suite, subject: impl Controller + Copy) {
     result_tests::known(suite, "engine", subject);
     count_tests::known(suite, "engine", subject);
     compare_tests::known(suite, "engine", subject);
+    join_tests::known(suite, "engine", subject);
     check_tests::known(suite, "engine", subject);
     match_tests::known(suite, "engine", subject);
     read_tests::made(suite, "engine", subject);
     check_tests::made(suite, "engine", subject);
     match_tests::made(suite, "engine", subject);
+    join_laws::made(suite, "engine", subject);
     count_tests::made(suite, "engine", subject);
     finish_tests::made(suite, "engine", subject);
     result_tests::made(suite, "engine", subject);
@@ -48,6 +51,7 @@ fn predicted(suite: &mut Suite, subject: impl Controller + Copy) {
     count_tests::predicted(suite, "engine", subject);
     count_tests::long(suite, "engine", subject, 16, 65_537);
     compare_tests::predicted(suite, "engine", subject);
+    join_tests::predicted(suite, "engine", subject);
     check_tests::predicted(suite, "engine", subject);
     match_tests::predicted(suite, "engine", subject);
 }
@@ -59,6 +63,7 @@ fn tests(subject: impl Controller + Sync + Copy) -> i32 {
     deep::all(&mut suite, "engine", subject);
     huge::all(&mut suite, "engine", subject);
     huge::far(&mut suite, "engine", subject);
+    huge::far_joins(&mut suite, "engine", subject);
     threads::all(&mut suite, "engine", subject);
     machine_tests::all(&mut suite, "engine", subject);
     suite.end()
@@ -71,13 +76,25 @@ fn batch_tests(subject: impl Controller + Sync + Copy) -> i32 {
     suite.end()
 }
 
-/// Every test on the engine with a bug; long runs alone on the one that has a slip in its batches.
+/// Joins past 2^32 alone.
+fn far_tests(subject: impl Controller) -> i32 {
+    let mut suite = Suite::new();
+    huge::far_joins(&mut suite, "engine", subject);
+    suite.end()
+}
+
+/// Every test on the engine with a bug; long runs alone on the one that has a slip in its batches, and joins past
+/// 2^32 alone where the bug shows nowhere else.
 fn with_bug(name: &str) -> i32 {
     if let Some(&(_, slip)) = SLIPS.iter().find(|slip| slip.0 == name) {
         return batch_tests(Batches { slip });
     }
     let bug = bugs().iter().find(|bug| bug.name == name).expect("a bug of that name");
-    tests(Wrong { subject: Linked, bug })
+    let wrong = Wrong { subject: Linked, bug };
+    if bug.far {
+        return far_tests(wrong);
+    }
+    tests(wrong)
 }
 
 fn asked() -> i32 {

@@ -73,7 +73,7 @@ pub const CYCLES_400: [[u8; 4]; 13] = [
 const AMPLE: usize = 200;
 
 pub fn rows() -> Vec<Row> {
-    [examples(), each_rule(), bells(), no_steps(), vec![every_rule(), all_different()]]
+    [examples(), each_rule(), bells(), joins(), no_steps(), vec![every_rule(), all_different()]]
         .into_iter()
         .flatten()
         .collect()
@@ -143,6 +143,19 @@ fn bells() -> Vec<Row> {
         // Rules 11, 7, 7, 6, 11, 7, 6, 11, 6, 10.
         row(".B1B2B3IBRRJBRJBJI", AMPLE, 100, "finished 10", "B3B2B1I", &[(6, 3), (7, 3), (10, 1), (11, 3)]),
         row(".B1B2B3IBRRJBRJBJI", AMPLE, 4, "spent 4", "B3.B1B2B3IBRJBJI", &[(6, 1), (7, 2), (11, 1)]),
+    ]
+}
+
+/// Joins applied to a bell; the rules as in the rows of joining.
+fn joins() -> Vec<Row> {
+    let join = ".AB1B2IHRJHRRJJ3";
+    let three = [(4, 2), (6, 6), (7, 6), (8, 4), (12, 3)];
+    vec![
+        row(join, AMPLE, 100, "finished 11", "H1H23", &[(4, 1), (6, 3), (7, 3), (8, 2), (12, 2)]),
+        row(join, 24, 10, "spent 10", "H1H2.B3B1B2IJ", &[(4, 1), (6, 2), (7, 3), (8, 2), (12, 2)]),
+        row(join, 23, 100, "no room 1", ".B3B1B2IHRJHRRJJ", &[(4, 1)]),
+        row(".ABAB1B2IHRJHRRJJB3IHRJHRRJJ4", AMPLE, 100, "finished 21", "H1H2H34", &three),
+        row(".AB1BAB2B3IHRJHRRJJIHRJHRRJJ4", AMPLE, 100, "finished 21", "H1H2H34", &three),
     ]
 }
 

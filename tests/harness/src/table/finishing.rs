@@ -42,7 +42,7 @@ pub const EXAMPLE_2_RULES: [(u8, &str); 6] =
     [(1, ".BIIHJRJ"), (8, "..BIIJ.BIIRJ"), (6, ".I.BIIRJ"), (5, ".BIIRJ"), (7, ".IJ"), (5, "J")];
 
 pub fn rows() -> Vec<Row> {
-    [edges(), bells(), ends_of_bells()].into_iter().flatten().collect()
+    [edges(), bells(), ends_of_bells(), joins()].into_iter().flatten().collect()
 }
 
 /// Runs at the edges of each outcome, and their neighbours.
@@ -115,6 +115,27 @@ fn ends_of_bells() -> Vec<Row> {
         // Three bells in another order: rules 11, 7, 7, 6, 11, 7, 6, 11, 6, 10.
         row(".B1B2B3IBRRJBRJBJI", AMPLE, 100, "finished 10", "B3B2B1I"),
         row(".B1B2B3IBRRJBRJBJI", AMPLE, 4, "spent 4", "B3.B1B2B3IBRJBJI"),
+    ]
+}
+
+/// Joins applied to a bell.
+fn joins() -> Vec<Row> {
+    let join = ".AB1B2IHRJHRRJJ3";
+    vec![
+        // Rules 4, 8, 7, 6, 12, 8, 7, 7, 6, 12, 6; the second term has 16 letters, the third 24.
+        row(join, AMPLE, 100, "finished 11", "H1H23"),
+        row(join, 24, 11, "finished 11", "H1H23"),
+        row(join, 24, 10, "spent 10", "H1H2.B3B1B2IJ"),
+        row(join, 24, 5, "spent 5", "H1.B3B1B2IHRRJJ"),
+        row(join, 24, 2, "spent 2", "..B3B1B2IRJ.B3B1B2IHRRJJ"),
+        row(join, 23, 100, "no room 1", ".B3B1B2IHRJHRRJJ"),
+        row(join, 16, 1, "spent 1", ".B3B1B2IHRJHRRJJ"),
+        // Three bells joined from the left, and from the right.
+        row(".ABAB1B2IHRJHRRJJB3IHRJHRRJJ4", AMPLE, 100, "finished 21", "H1H2H34"),
+        row(".AB1BAB2B3IHRJHRRJJIHRJHRRJJ4", AMPLE, 100, "finished 21", "H1H2H34"),
+        // A join that is not applied is normal where its terms are, and else its terms come to their ends in it.
+        row("AB1B2IHRJHRRJJ", 14, 100, "finished 0", "AB1B2IHRJHRRJJ"),
+        row("AB.IIB.1TIHRJHRRJJ", 18, 100, "finished 2", "ABIBH1TIHRJHRRJJ"),
     ]
 }
 

@@ -4,6 +4,7 @@ pub mod checking;
 pub mod comparing;
 pub mod counting;
 pub mod finishing;
+pub mod joining;
 pub mod matching;
 pub mod programs;
 pub mod reading;

@@ -38,6 +38,8 @@ fn outcomes() -> Vec<Row> {
         row("1000000\t16384\tJ\n", "finished\t0\tJ"),
         row("9\t30\t.BIIABJIRJ\n", "finished\t4\tABIIRJ"),
         row("9\t30\t.B.AIHJJAIHJJI.II\n", "finished\t2\tI"),
+        row("11\t24\t.AB1B2IHRJHRRJJ3\n", "finished\t11\tH1H23"),
+        row("11\t23\t.AB1B2IHRJHRRJJ3\n", "no room\t1\t.B3B1B2IHRJHRRJJ"),
     ]
 }
 

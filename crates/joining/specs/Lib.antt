@@ -1,0 +1,4 @@
+pub mod Join
+pub mod Joining
+pub mod Joins
+pub mod Answer
