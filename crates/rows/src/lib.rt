@@ -21,9 +21,10 @@ ghost use Rattle.rows.specs.Ringing.{After, goodRows, ringingOf};
 ghost use Rattle.rows.specs.Storing.{rowsIn, Chained, Layable, Storable, keysOf};
 ghost use Rattle.rows.specs.Answer.{answerOf};
 
-// The fewest bells that a row has, and the most rows of a piece (specs/Ringing.antt).
+// The fewest bells that a row has (bell_rows/specs/Row.antt).
 const FEWEST: usize = 2;
 
+// The most rows of a piece (specs/Ringing.antt).
 const ROW_LIMIT: usize = 1000;
 
 // What reading a piece as rows answers; specs/Answer.antt gives the number and the values of each case.
