@@ -1,5 +1,5 @@
 /*
- * The engine for the controller's firmware: eight functions on byte pointers and numbers.
+ * The engine for the controller's firmware: nine functions on byte pointers and numbers.
  *
  *     controller_read             is this text one term?                      answers its size
  *     controller_step             one step of a term, in place                answers the rule used
@@ -7,6 +7,7 @@
  *     controller_finish_counted   the same                                    and how many by each rule
  *     controller_compare          have two terms the same result?             answers yes, no or not known
  *     controller_join             one piece after another, as one term        answers its size
+ *     controller_rows             the rows of a piece, for the hammers        answers how many, and how many differ
  *     controller_check            does every line of a derivation follow?     answers how many lines
  *     controller_match            do two derivations claim the same type?     answers yes or no
  *
@@ -47,16 +48,18 @@ extern "C" {
 #define CONTROLLER_REFUSED(reply) (CONTROLLER_CODE(reply) < 100)
 
 /*
- * Of a refusal: where the fault is, a byte of the term counted from 0 or a line of the file counted from 1.
+ * Of a refusal: where the fault is, a byte of the term counted from 0, or a row of the piece or a line of the file
+ * counted from 1.
  * Of CONTROLLER_WHOLE: where the term ends, which is its size.
  */
 #define CONTROLLER_PLACE(reply) ((uint64_t)(reply) >> 8)
 
-/* Of any other answer: a rule's number, a count of steps or a count of lines, as stands with the constant. */
+/* Of any other answer: a rule's number, or a count of steps, of rows or of lines, as stands with the constant. */
 #define CONTROLLER_VALUE(reply) ((uint32_t)(((reply) >> 8) & 0xffffff))
 
 /* Of an answer of controller_step, controller_finish, controller_finish_counted and controller_join: the size of
-   the term that now stands in the area. It has 32 bits, which only a join can exceed. */
+   the term that now stands in the area. It has 32 bits, which only a join can exceed. Of CONTROLLER_RUNG: the
+   number of different rows. */
 #define CONTROLLER_SIZE(reply) ((uint32_t)((reply) >> 32))
 
 /* ---- Limits -------------------------------------------------------------------------------------------- */
@@ -67,6 +70,9 @@ enum {
     CONTROLLER_RULES = 13,           /* rules of reduction, numbered from 1 */
     CONTROLLER_COUNTS_SIZE = 52,     /* bytes that a count for each rule takes */
     CONTROLLER_JOIN_FRAME = 12,      /* letters of a join beside those of its two terms */
+    CONTROLLER_FEWEST_BELLS = 2,     /* bells of a row */
+    CONTROLLER_MOST_BELLS = 12,      /* bells of a row, and the bytes that each row has in the table */
+    CONTROLLER_MOST_ROWS = 1000,     /* rows of a piece */
     CONTROLLER_LARGEST_FILE = 65536, /* bytes of a derivation file */
     CONTROLLER_MOST_LINES = 1024     /* lines of a derivation file */
 };
@@ -83,6 +89,10 @@ enum {
     CONTROLLER_NO_LETTER = 5,        /* the byte at that place is none of J R H A I B . and no bell: 1 to 9, 0, E, T */
     CONTROLLER_NOT_WHOLE = 6,        /* the text ends at that place, and its term has not ended */
     CONTROLLER_BEYOND = 7,           /* the term has ended before that place, and a byte stands there */
+    CONTROLLER_NO_CHAIN = 20,        /* the term is no chain of bells, or rows have no such number of bells; place 0 */
+    CONTROLLER_NO_TABLE = 21,        /* the bells are no whole number of rows, or more than CONTROLLER_MOST_ROWS, or
+                                        more rows than the table holds; place 0 */
+    CONTROLLER_BAD_ROW = 22,         /* that row does not hold each of its bells once */
     CONTROLLER_JOIN_TOO_LARGE = 31   /* the join of two terms is larger than the area; place 0 */
 };
 
@@ -190,6 +200,22 @@ uint64_t controller_join(const uint8_t *f, size_t f_size, const uint8_t *g, size
                          size_t area_size);
 
 /*
+ * Reads a finished piece as rows of so many bells each and stores them in the table. The piece is a chain: B and a
+ * bell, again and again, and I at the end. Each row takes CONTROLLER_MOST_BELLS bytes of the table, whatever its
+ * number of bells: its bells in order, each as its number from 1 to 12, and zeros. Zeros stand behind the last
+ * row to the end of the table. Nothing is run: a term that is not finished is no chain.
+ *   bells is from CONTROLLER_FEWEST_BELLS to CONTROLLER_MOST_BELLS, and each row holds every bell from one to that
+ *   number once. The term may have any size, and the table too; the table may hold anything.
+ *   Refusals, in this order: those of controller_read, CONTROLLER_NO_CHAIN, CONTROLLER_NO_TABLE,
+ *   CONTROLLER_BAD_ROW with the first such row.
+ */
+enum {
+    CONTROLLER_RUNG = 130            /* the table holds the rows; CONTROLLER_VALUE is their number, CONTROLLER_SIZE
+                                        the number of different rows: equal in a piece that repeats none */
+};
+uint64_t controller_rows(const uint8_t *term, size_t term_size, size_t bells, uint8_t *table, size_t table_size);
+
+/*
  * Checks a derivation file.
  *   Refusals: CONTROLLER_FILE_TOO_LONG, CONTROLLER_FILE_EMPTY, CONTROLLER_NO_LINE_END,
  *   CONTROLLER_TOO_MANY_LINES, in this order; then the first bad line with the first of
@@ -289,6 +315,13 @@ static inline uint64_t controller_call_join(const uint8_t *f, size_t f_size, con
                            controller_lent(area, area_size), area_size);
 }
 
+static inline uint64_t controller_call_rows(const uint8_t *term, size_t term_size, size_t bells, uint8_t *table,
+                                            size_t table_size)
+{
+    return controller_rows(controller_some(term, term_size), term_size, bells,
+                           controller_lent(table, table_size), table_size);
+}
+
 static inline uint64_t controller_call_check(const uint8_t *file, size_t file_size)
 {
     return controller_check(controller_some(file, file_size), file_size);
@@ -312,6 +345,8 @@ static inline uint64_t controller_call_match(const uint8_t *first, size_t first_
     controller_call_compare(first, first_size, first_term, second, second_size, second_term, work, work_size, fuel)
 #define controller_join(f, f_size, g, g_size, area, area_size) \
     controller_call_join(f, f_size, g, g_size, area, area_size)
+#define controller_rows(term, term_size, bells, table, table_size) \
+    controller_call_rows(term, term_size, bells, table, table_size)
 #define controller_check(file, file_size) controller_call_check(file, file_size)
 #define controller_match(first, first_size, second, second_size) \
     controller_call_match(first, first_size, second, second_size)

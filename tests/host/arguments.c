@@ -63,6 +63,12 @@ uint64_t(controller_join)(const uint8_t *f, size_t f_size, const uint8_t *g, siz
     return 8;
 }
 
+uint64_t(controller_rows)(const uint8_t *term, size_t term_size, size_t bells, uint8_t *table, size_t table_size)
+{
+    printf("rows %s %zu %zu %s %zu\n", name_of(term), term_size, bells, name_of(table), table_size);
+    return 9;
+}
+
 uint64_t(controller_check)(const uint8_t *file, size_t file_size)
 {
     printf("check %s %zu\n", name_of(file), file_size);
@@ -106,6 +112,11 @@ int main(void)
     returned(controller_join(a, 1, b, 2, NULL, 0));
     returned(controller_join(NULL, 0, NULL, 0, NULL, 0));
     returned(controller_join(NULL, 7, NULL, 8, NULL, 9));
+    returned(controller_rows(a, 1, 2, b, 3));
+    returned(controller_rows(NULL, 0, 2, b, 3));
+    returned(controller_rows(a, 1, 2, NULL, 0));
+    returned(controller_rows(NULL, 0, 0, NULL, 0));
+    returned(controller_rows(NULL, 7, 8, NULL, 9));
     returned(controller_check(a, 1));
     returned(controller_check(NULL, 0));
     returned(controller_match(a, 1, b, 2));
@@ -116,6 +127,9 @@ int main(void)
     returned(controller_join(a, n++, b, 0, c, 0));
     returned(controller_join(a, 0, b, n++, c, 0));
     returned(controller_join(a, 0, b, 0, c, n++));
+    returned(controller_rows(a, n++, 0, b, 0));
+    returned(controller_rows(a, 0, n++, b, 0));
+    returned(controller_rows(a, 0, 0, b, n++));
     printf("n is %zu\n", n);
     return 0;
 }

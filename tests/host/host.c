@@ -1,4 +1,4 @@
-/* A host like the firmware. It calls the eight functions on a table of inputs and prints each reply and every
+/* A host like the firmware. It calls the nine functions on a table of inputs and prints each reply and every
  * lent byte afterwards; what it must print is written by hand in expected.txt. It knows the engine from its
  * header alone: no code and no limit stands here as a number.
  *
@@ -23,9 +23,10 @@ static const constant codes[] = {
     CONSTANT(NO_LETTER),      CONSTANT(NOT_WHOLE),      CONSTANT(BEYOND),          CONSTANT(FILE_TOO_LONG),
     CONSTANT(FILE_EMPTY),     CONSTANT(NO_LINE_END),    CONSTANT(TOO_MANY_LINES),  CONSTANT(NOT_SIX_FIELDS),
     CONSTANT(MALFORMED),      CONSTANT(UNKNOWN_RULE),   CONSTANT(BAD_PREMISE),     CONSTANT(NO_INSTANCE),
-    CONSTANT(JOIN_TOO_LARGE), CONSTANT(NORMAL),         CONSTANT(STEP_NO_ROOM),    CONSTANT(STEPPED),
-    CONSTANT(WHOLE),          CONSTANT(FINISHED),       CONSTANT(SPENT),           CONSTANT(NO_ROOM),
-    CONSTANT(SAME),           CONSTANT(DIFFERENT),      CONSTANT(UNDECIDED),       CONSTANT(ACCEPTED),
+    CONSTANT(NO_CHAIN),       CONSTANT(NO_TABLE),       CONSTANT(BAD_ROW),         CONSTANT(JOIN_TOO_LARGE),
+    CONSTANT(NORMAL),         CONSTANT(STEP_NO_ROOM),   CONSTANT(STEPPED),         CONSTANT(WHOLE),
+    CONSTANT(FINISHED),       CONSTANT(SPENT),          CONSTANT(NO_ROOM),         CONSTANT(SAME),
+    CONSTANT(DIFFERENT),      CONSTANT(UNDECIDED),      CONSTANT(ACCEPTED),        CONSTANT(RUNG),
     CONSTANT(JOINED),         CONSTANT(MATCH),          CONSTANT(NO_MATCH),
 };
 
@@ -37,6 +38,9 @@ static const constant limits[] = {
     CONSTANT(RULES),
     CONSTANT(COUNTS_SIZE),
     CONSTANT(JOIN_FRAME),
+    CONSTANT(FEWEST_BELLS),
+    CONSTANT(MOST_BELLS),
+    CONSTANT(MOST_ROWS),
 };
 
 #define COUNT(table) (sizeof(table) / sizeof(table)[0])
@@ -369,6 +373,59 @@ static void join_long(size_t times, size_t more)
     free(area);
 }
 
+/* Rows of so many bells, into a table of this size. */
+static void rows_of(const char *name, const char *term, size_t term_size, size_t bells, size_t table_size)
+{
+    uint8_t *piece = block(term, term_size, term_size, 0);
+    uint8_t *table = block("", 0, table_size, '#');
+    printf("rows %s of %zu", name, bells);
+    print_reply(controller_rows(piece, term_size, bells, table, table_size));
+    print_bytes("term", piece, term_size);
+    print_bytes("table", table, table_size);
+    putchar('\n');
+    free(piece);
+    free(table);
+}
+
+static void rows(const char *term, size_t bells, size_t table_size)
+{
+    rows_of(term, term, strlen(term), bells, table_size);
+}
+
+/* A term is finished, and what is left is rung. */
+static void finish_and_ring(const char *term, size_t area_size, size_t bells, size_t table_size)
+{
+    uint8_t *area = block(term, strlen(term), area_size, '#');
+    uint8_t *work = work_of(area_size);
+    uint8_t *table = block("", 0, table_size, '#');
+    uint64_t reply = controller_finish(area, area_size, strlen(term), work, area_size, CONTROLLER_MOST_FUEL);
+    printf("rows %s finished, of %zu", term, bells);
+    print_reply(controller_rows(area, CONTROLLER_SIZE(reply), bells, table, table_size));
+    print_bytes("term", area, CONTROLLER_SIZE(reply));
+    print_bytes("table", table, table_size);
+    putchar('\n');
+    free(area);
+    free(work);
+    free(table);
+}
+
+/* Some letters over and over and I; of the table the first row and the last bytes of as many are printed. */
+static void rows_repeated(const char *name, const char *letters, size_t times, size_t bells, size_t table_size)
+{
+    size_t length = strlen(letters) * times;
+    uint8_t *piece = block("", 0, length + 1, 'I');
+    uint8_t *table = block("", 0, table_size, '#');
+    for (size_t place = 0; place < length; place++)
+        piece[place] = (uint8_t)letters[place % strlen(letters)];
+    printf("rows %s of %zu in %zu", name, bells, table_size);
+    print_reply(controller_rows(piece, length + 1, bells, table, table_size));
+    print_bytes("first", table, CONTROLLER_MOST_BELLS);
+    print_bytes("last", table + table_size - CONTROLLER_MOST_BELLS, CONTROLLER_MOST_BELLS);
+    putchar('\n');
+    free(piece);
+    free(table);
+}
+
 /* Checking of a file and of one byte again and again; matching of two files. */
 
 static void check_bytes(const char *name, const char *file, size_t size)
@@ -603,6 +660,51 @@ static void long_joins(void)
     join_long(1000000, 0);
 }
 
+/* The text, then the chain and the bells of a row, then the table, then each row. */
+static void pieces(void)
+{
+    rows("I", 2, 0);
+    rows("I", CONTROLLER_MOST_BELLS + 1, 0);
+    rows("Jx", 1, 0);
+    rows("BJI", 2, 24);
+    rows("B1J", 2, 24);
+    rows(".II", 2, 24);
+    rows("B1I", 2, 24);
+    rows("B1B2I", 2, 11);
+    rows("B1B1I", 2, 24);
+    rows("B1B3I", 2, 24);
+    rows("B1B2B2B2I", 2, 24);
+    rows("B1B2I", 2, 14);
+    rows("B1B2B2B1I", 2, 24);
+    rows("B1B2B1B2I", 2, 24);
+    rows("", 2, 12);
+    rows("HJ", 13, 5);
+    rows_of("I and a NUL", "I\0", 2, 2, 12);
+    rows("I", CONTROLLER_FEWEST_BELLS - 1, 3);
+    rows("I", CONTROLLER_FEWEST_BELLS, 3);
+    rows("I", CONTROLLER_MOST_BELLS, 13);
+    rows("B1B2I", SIZE_MAX, 12);
+    rows("B1B2I", ((size_t)1 << 32) + 2, 12);
+    rows("BB1II", 2, 12);
+    rows("B1B2B3B1I", 3, 24);
+    rows("B1B1B1I", 2, 24);
+    rows("B1B2B3B4B5B6B7B8B9B0BEBTI", 12, 12);
+    rows("BTBEB0B9B8B7B6B5B4B3B2B1I", 12, 15);
+    rows("B3B1B2B3B2B1B3B1B2I", 3, 40);
+    finish_and_ring(".B1B2IBRJBJBJBRJI", 60, 2, 24);
+    rows_repeated("B1B2B2B1 500 times", "B1B2B2B1", CONTROLLER_MOST_ROWS / 2, 2, 12000);
+    rows_repeated("B1B2B2B1 500 times", "B1B2B2B1", CONTROLLER_MOST_ROWS / 2, 4, 12000);
+    rows_repeated("B3B1B2 1000 times", "B3B1B2", CONTROLLER_MOST_ROWS, 3, 11999);
+    rows_repeated("B3B1B2 1000 times", "B3B1B2", CONTROLLER_MOST_ROWS, 3, 12005);
+    rows_repeated("B3B1B2 1001 times", "B3B1B2", CONTROLLER_MOST_ROWS + 1, 3, 12012);
+    rows_repeated("twelve bells 1000 times", "BTB1BEB2B0B3B9B4B8B5B7B6", CONTROLLER_MOST_ROWS, 12, 12000);
+}
+
+static void long_pieces(void)
+{
+    rows_repeated("B2B1^1000000", "B2B1", 1000000, 2, 12000);
+}
+
 #define LINE_J "*a1\tJ\ta\tJ\t-\t-\n"
 #define LINE_I "1\tI\t1\tI\t-\t-\n"
 #define LINE_K "1\t1\tb\tK\t-\t-\n"
@@ -680,6 +782,14 @@ static void nulls(void)
     print_reply(controller_join(area, 1, area, 1, NULL, 0));
     printf("\njoin null and null into null");
     print_reply(controller_join(NULL, 0, NULL, 0, NULL, 0));
+    printf("\nrows null");
+    print_reply(controller_rows(NULL, 0, 2, work, sizeof work));
+    printf("\nrows I into null");
+    print_reply(controller_rows((const uint8_t *)"I", 1, 2, NULL, 0));
+    printf("\nrows B1B2I into null");
+    print_reply(controller_rows((const uint8_t *)"B1B2I", 5, 2, NULL, 0));
+    printf("\nrows null into null");
+    print_reply(controller_rows(NULL, 0, 13, NULL, 0));
     printf("\ncheck null");
     print_reply(controller_check(NULL, 0));
     printf("\nmatch null and a file");
@@ -698,6 +808,8 @@ static void pointers(void)
     uint64_t (*stepping)(uint8_t *, size_t, size_t, uint8_t *, size_t) = &controller_step;
     uint64_t (*reading)(const uint8_t *, size_t) = controller_read;
     uint64_t (*joining)(const uint8_t *, size_t, const uint8_t *, size_t, uint8_t *, size_t) = &controller_join;
+    uint64_t (*ringing)(const uint8_t *, size_t, size_t, uint8_t *, size_t) = &controller_rows;
+    uint8_t table[] = {'#', '#', '#'};
     uint8_t area[] = {'.', 'I', 'J'};
     uint8_t both[2 + CONTROLLER_JOIN_FRAME];
     uint8_t work[] = {'w', 'w', 'w'};
@@ -706,6 +818,9 @@ static void pointers(void)
     printf("\njoin through a pointer");
     print_reply(joining(area + 1, 1, area + 2, 1, both, sizeof both));
     print_bytes("area", both, sizeof both);
+    printf("\nrows through a pointer");
+    print_reply(ringing(area + 1, 1, CONTROLLER_MOST_BELLS, table, sizeof table));
+    print_bytes("table", table, sizeof table);
     printf("\nstep through a pointer");
     print_reply(stepping(area, sizeof area, sizeof area, work, sizeof work));
     print_bytes("area", area, sizeof area);
@@ -729,6 +844,7 @@ int main(int count, char **words)
     count_refusals();
     comparisons();
     joins();
+    pieces();
     checks();
     matches();
     nulls();
@@ -738,6 +854,7 @@ int main(int count, char **words)
         long_runs();
         long_counts();
         long_joins();
+        long_pieces();
     }
     return 0;
 }

@@ -8,16 +8,19 @@ use Rattle.finishing.specs.Finishing as finishing
 use Rattle.counting.specs.Counting as counting
 use Rattle.verdicts.specs.Comparing as comparing
 use Rattle.joining.specs.Joining as joining
+use Rattle.rows.specs.Ringing as ringing
 use Rattle.codes.specs.Encoding.{
   stepNumber,
   finishNumber,
   compareNumber,
   joinNumber,
+  rowsNumber,
   codedStep,
   codedFinish,
   codedCount,
   codedCompare,
   codedJoin,
+  codedRows,
 }
 
 pub coded-step :
@@ -45,3 +48,8 @@ pub coded-join :
     {n : ℕ} {reply : Reply ℕ} {area : List ℕ} {end : joining.After} →
     n ≡ joinNumber reply → joining.After.after reply area ≡ end → (n, area) ≡ codedJoin end
 coded-join {n} {reply} {area} number ended = ap (λ (m : ℕ). (m, area)) number ∙ ap codedJoin ended
+
+pub coded-rows :
+    {n : ℕ} {reply : Reply ringing.Rung} {table : List ℕ} {end : ringing.After} →
+    n ≡ rowsNumber reply → ringing.After.after reply table ≡ end → (n, table) ≡ codedRows end
+coded-rows {n} {reply} {table} number ended = ap (λ (m : ℕ). (m, table)) number ∙ ap codedRows ended

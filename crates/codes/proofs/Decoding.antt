@@ -10,6 +10,7 @@ use Rattle.reading.specs.Reply.{Reply, Refuses}
 use Rattle.stepping.specs.Stepping as stepping
 use Rattle.finishing.specs.Finishing as finishing
 use Rattle.verdicts.specs.Comparing as comparing
+use Rattle.rows.specs.Ringing as ringing
 use Rattle.codes.specs.Encoding.{Parts, placeLimit, sizeLimit, encode, outcomeCode, compareParts, matchParts}
 use Rattle.codes.specs.Decoding.{
   codePart,
@@ -22,6 +23,7 @@ use Rattle.codes.specs.Decoding.{
   outcomeIn,
   ranIn,
   comparedIn,
+  rungIn,
   matchIn,
 }
 
@@ -127,6 +129,12 @@ joined-decoded size =
     let c : codePart (encode (Parts.narrow 160 0 size)) ≡ 160 = omega arith in
     let s : sizePart (encode (Parts.narrow 160 0 size)) ≡ size % sizeLimit = omega arith in
     rw (c, s)
+
+pub rung-decoded :
+    (rows different : ℕ) → rows < 16777216 → different < 4294967296 →
+    decoded rungIn (encode (Parts.narrow 130 rows different)) ≡ Reply.answered (ringing.Rung.rung rows different)
+unfolding decoded
+rung-decoded rows different few fits = let (c, v, s) = narrow-parts 130 rows different (omega arith) few fits in rw (c, v, s)
 
 pub accepted-decoded : (lines : ℕ) → lines < 16777216 → decoded valuePart (encode (Parts.narrow 120 lines 0)) ≡ Reply.answered lines
 unfolding decoded

@@ -1,12 +1,12 @@
 -- A caller decodes what the operation answers. Carried by: refusals' numbers are below 100, and places, lines, rules, counts and sizes are
 -- within limits that fit their bits. Assumes nothing.
-use Prim.Native.Nat.{ℕ, _%_, _≤_, _<_}
+use Prim.Native.Nat.{ℕ, suc, _%_, _≤_, _<_}
 use native.Mathlib.Omega.{arith}
 use mathlib.Core.Path.{_≡_, refl, _∙_, ap}
 use mathlib.Core.Bool.{Bool}
 use mathlib.Core.Logic.{⊎-elim}
-use mathlib.Core.List.{List, _++_}
-use lib.ListN.{length, drop}
+use mathlib.Core.List.{List, _∷_, _++_}
+use lib.ListN.{length, drop, length-append}
 use Rattle.calculus.specs.Term.{text, size}
 use Rattle.calculus.specs.Run.{run, outcome, rules, count, reached}
 use Rattle.calculus.specs.Counts.{uses}
@@ -34,6 +34,11 @@ use Rattle.joining.specs.Joining as joining
 use Rattle.joining.specs.Joins.{JoinsAs}
 use Rattle.joining.proofs.Text.{length-join}
 use Rattle.joining.proofs.Calls.{JoinsTo, joins-to}
+use Rattle.repeats.specs.Repeats.{Different}
+use Rattle.repeats.proofs.Repeats.{fits}
+use Rattle.rows.specs.Ringing as ringing
+use Rattle.rows.specs.RingsAs.{RingsAs}
+use Rattle.rows.proofs.Exactly.{RingsTo, rings-to}
 use Rattle.derivation_files.specs.Checking.{checkingOf}
 use Rattle.derivation_files.proofs.Listed.{checking-refused}
 use Rattle.derivation_files.proofs.Files.{accepted-exactly}
@@ -47,6 +52,7 @@ use Rattle.codes.specs.Encoding.{
   finishNumber,
   compareNumber,
   joinNumber,
+  rowsNumber,
   checkNumber,
   matchNumber,
   codedStep,
@@ -54,6 +60,7 @@ use Rattle.codes.specs.Encoding.{
   codedCount,
   codedCompare,
   codedJoin,
+  codedRows,
 }
 use Rattle.codes.specs.Decoding.{
   placePart,
@@ -62,6 +69,7 @@ use Rattle.codes.specs.Decoding.{
   steppedIn,
   admittedIn,
   comparedIn,
+  rungIn,
   matchIn,
   decodedRead,
   decodedStep,
@@ -72,6 +80,7 @@ use Rattle.codes.specs.Decoding.{
   decodedCompare,
   decodedJoin,
   sizeCut,
+  decodedRows,
   decodedCheck,
   decodedMatch,
   InC,
@@ -89,6 +98,7 @@ use Rattle.codes.proofs.Decoding.{
   no-run-decoded,
   compared-decoded,
   joined-decoded,
+  rung-decoded,
   accepted-decoded,
   matched-decoded,
 }
@@ -178,6 +188,28 @@ size-whole f g area (joining.After.after (Reply.answered s) area′) (JoinsAs.jo
     let whole : s % sizeLimit ≡ s = omega (arith, length-join t u, ap length d, ap length e) in
     ap (λ (n : ℕ). joining.After.after (Reply.answered n) area′) whole
 
+-- of some rows no more are different
+few-different : {rows : List (List ℕ)} {k : ℕ} → Different rows k → k ≤ length rows
+few-different d = omega (arith, fits (d .none-twice) (d .no-other), d .counted)
+
+module _ (bytes : List ℕ) (n : ℕ) (table : List ℕ) (short : length bytes < placeLimit) where
+  rows-decoded : (after : ringing.After) → RingsTo bytes n table after → decodedRows (codedRows after) ≡ after
+  unfolding rowsNumber
+  rows-decoded (ringing.After.after reply table′) (RingsAs.unread {number = m} {place = p} r) =
+      cc (refused-decoded rungIn (omega arith) (omega arith) short (reading-refused bytes m p (reads-as-only r)))
+  rows-decoded (ringing.After.after reply table′) (RingsAs.too-few t e few) = cc (wide-refused rungIn 20 0 (omega arith) (omega arith))
+  rows-decoded (ringing.After.after reply table′) (RingsAs.too-many t e many) = cc (wide-refused rungIn 20 0 (omega arith) (omega arith))
+  rows-decoded (ringing.After.after reply table′) (RingsAs.no-chain t e none) = cc (wide-refused rungIn 20 0 (omega arith) (omega arith))
+  rows-decoded (ringing.After.after reply table′) (RingsAs.uneven t bells e c low high none) =
+      cc (wide-refused rungIn 21 0 (omega arith) (omega arith))
+  rows-decoded (ringing.After.after reply table′) (RingsAs.past-limit w large) = cc (wide-refused rungIn 21 0 (omega arith) (omega arith))
+  rows-decoded (ringing.After.after reply table′) (RingsAs.past-table w large) = cc (wide-refused rungIn 21 0 (omega arith) (omega arith))
+  rows-decoded (ringing.After.after reply table′) (RingsAs.bad-row good bad others w limited room all-good is-bad) =
+      let before = length-append good (bad ∷ others) in
+      cc (wide-refused rungIn 22 (suc (length good)) (omega arith) (omega arith))
+  rows-decoded (ringing.After.after reply table′) (RingsAs.rung {rows = rows} {different = k} w limited room all-good d) =
+      cc (rung-decoded (length rows) k (omega arith) (omega (arith, few-different d)))
+
 check-decoded : (file : List ℕ) (r : Reply ℕ) → checkingOf file ≡ r → decodedCheck (checkNumber r) ≡ r
 unfolding checkNumber
 check-decoded file (Reply.refused n p) e =
@@ -206,6 +238,7 @@ in-c =
           λ f g area small.
           join-decoded f g area (omega arith) (omega arith) (joining.joiningOf f g area) (joins-to f g area)
           ∙ size-whole f g area (joining.joiningOf f g area) (joins-to f g area) small;
+      rows = λ bytes n table short. rows-decoded bytes n table short (ringing.ringingOf bytes n table) (rings-to bytes n table);
       check = λ file. check-decoded file (checkingOf file) refl;
       match-claims = λ first second. match-decoded first second (matchingOf first second) refl;
     }

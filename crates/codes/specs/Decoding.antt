@@ -17,6 +17,7 @@ use Rattle.counting.specs.Counting as counting
 use Rattle.verdicts.specs.Comparing as comparing
 use Rattle.joining.specs.Join.{joinSize}
 use Rattle.joining.specs.Joining as joining
+use Rattle.rows.specs.Ringing as ringing
 use Rattle.derivation_files.specs.Checking.{checkingOf}
 use Rattle.matching.specs.Matching.{matchingOf}
 use Rattle.codes.specs.Encoding.{
@@ -30,6 +31,7 @@ use Rattle.codes.specs.Encoding.{
   codedCount,
   codedCompare,
   codedJoin,
+  codedRows,
 }
 
 -- ---- the macros of include/controller.h
@@ -90,6 +92,10 @@ comparedIn reply =
     cond (eqb (codePart reply) 113) comparing.Compared.same-results
     (cond (eqb (codePart reply) 114) comparing.Compared.different-results comparing.Compared.undecided)
 
+-- how many rows, and how many different ones
+abbrev pub rungIn : ℕ → ringing.Rung
+rungIn reply = ringing.Rung.rung (valuePart reply) (sizePart reply)
+
 -- whether the claims match
 unfoldable pub matchIn : ℕ → Bool
 matchIn reply = eqb (codePart reply) 180
@@ -126,15 +132,18 @@ abbrev pub sizeCut : joining.After → joining.After
 sizeCut (joining.After.after (Reply.refused number place) area) = joining.After.after (Reply.refused number place) area
 sizeCut (joining.After.after (Reply.answered size) area) = joining.After.after (Reply.answered (size % sizeLimit)) area
 
+abbrev pub decodedRows : ℕ × List ℕ → ringing.After
+decodedRows left = ringing.After.after (decoded rungIn (left .0)) (left .1)
+
 abbrev pub decodedCheck : ℕ → Reply ℕ
 decodedCheck reply = decoded valuePart reply
 
 abbrev pub decodedMatch : ℕ → Reply Bool
 decodedMatch reply = decoded matchIn reply
 
--- What the caller sees is what the operation answers and leaves, for every call of the eight functions; `controller_finish` shows all but
+-- What the caller sees is what the operation answers and leaves, for every call of the nine functions; `controller_finish` shows all but
 -- the counts by rule, `controller_join` all of a size that 32 bits hold. (What stands in the brackets is what the function leaves, by its
--- contract.) Only the two that take terms of any length have a condition: no term has 2 to the 56 bytes or more.
+-- contract.) Only the three that take terms of any length have a condition: no term has 2 to the 56 bytes or more.
 pub record InC : Type 0 where
   pub read : (bytes : List ℕ) → length bytes < placeLimit → decodedRead (readNumber (readingOf bytes)) ≡ readingOf bytes
   pub step :
@@ -156,5 +165,8 @@ pub record InC : Type 0 where
   pub join-whole :
       (f g area : List ℕ) → joinSize (length f) (length g) < sizeLimit →
       decodedJoin (codedJoin (joining.joiningOf f g area)) ≡ joining.joiningOf f g area
+  pub rows :
+      (bytes : List ℕ) (n : ℕ) (table : List ℕ) → length bytes < placeLimit →
+      decodedRows (codedRows (ringing.ringingOf bytes n table)) ≡ ringing.ringingOf bytes n table
   pub check : (file : List ℕ) → decodedCheck (checkNumber (checkingOf file)) ≡ checkingOf file
   pub match-claims : (first second : List ℕ) → decodedMatch (matchNumber (matchingOf first second)) ≡ matchingOf first second

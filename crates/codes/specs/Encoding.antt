@@ -9,6 +9,7 @@ use Rattle.finishing.specs.Finishing as finishing
 use Rattle.counting.specs.Counting as counting
 use Rattle.verdicts.specs.Comparing as comparing
 use Rattle.joining.specs.Joining as joining
+use Rattle.rows.specs.Ringing as ringing
 
 -- ---- a code and what stands behind it
 
@@ -67,6 +68,10 @@ compareParts comparing.Compared.undecided = Parts.narrow 115 0 0
 abbrev pub joinParts : ℕ → Parts
 joinParts size = Parts.narrow 160 0 size
 
+-- rows: 130 rung, with the number of rows and that of different rows
+abbrev pub rowsParts : ringing.Rung → Parts
+rowsParts (ringing.Rung.rung rows different) = Parts.narrow 130 rows different
+
 -- checking: 120 accepted, with the number of lines
 abbrev pub checkParts : ℕ → Parts
 checkParts lines = Parts.narrow 120 lines 0
@@ -93,6 +98,9 @@ compareNumber reply = encode (parts compareParts reply)
 unfoldable pub joinNumber : Reply ℕ → ℕ
 joinNumber reply = encode (parts joinParts reply)
 
+unfoldable pub rowsNumber : Reply ringing.Rung → ℕ
+rowsNumber reply = encode (parts rowsParts reply)
+
 unfoldable pub checkNumber : Reply ℕ → ℕ
 checkNumber reply = encode (parts checkParts reply)
 
@@ -115,3 +123,6 @@ codedCompare (comparing.After.after reply first second work) = (compareNumber re
 
 abbrev pub codedJoin : joining.After → ℕ × List ℕ
 codedJoin (joining.After.after reply area) = (joinNumber reply, area)
+
+abbrev pub codedRows : ringing.After → ℕ × List ℕ
+codedRows (ringing.After.after reply table) = (rowsNumber reply, table)

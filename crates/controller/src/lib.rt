@@ -6,9 +6,10 @@ ghost use Rattle.finishing.specs.Finishing.{finishingOf};
 ghost use Rattle.counting.specs.Counting.{countingOf};
 ghost use Rattle.verdicts.specs.Comparing.{comparingOf};
 ghost use Rattle.joining.specs.Joining.{joiningOf};
+ghost use Rattle.rows.specs.Ringing.{ringingOf};
 ghost use Rattle.derivation_files.specs.Checking.{checkingOf};
 ghost use Rattle.matching.specs.Matching.{matchingOf};
-ghost use Rattle.codes.specs.Encoding.{readNumber, checkNumber, matchNumber, codedStep, codedFinish, codedCount, codedCompare, codedJoin};
+ghost use Rattle.codes.specs.Encoding.{readNumber, checkNumber, matchNumber, codedStep, codedFinish, codedCount, codedCompare, codedJoin, codedRows};
 
 // Whether bytes, any number of them, are the text of one term.
 #[no_mangle]
@@ -91,6 +92,14 @@ pub extern "C" fn controller_join(f: &[u8], g: &[u8], area: &mut [u8]) -> u64
     ensures { λ r. ⌜ (r, now (area .exit)) ≡ codedJoin (joiningOf (now (f .entry)) (now (g .entry)) (now (area .entry))) ⌝ }
 {
     term_numbers::join_number(joining::join(f, g, area))
+}
+
+// The rows of a piece, stored in the table.
+#[no_mangle]
+pub extern "C" fn controller_rows(term: &[u8], bells: usize, table: &mut [u8]) -> u64
+    ensures { λ r. ⌜ (r, now (table .exit)) ≡ codedRows (ringingOf (now (term .entry)) «bells» (now (table .entry))) ⌝ }
+{
+    term_numbers::rows_number(rows::ring(term, bells, table))
 }
 
 // Whether each line of a derivation file follows.

@@ -1,9 +1,10 @@
 -- The demands hold: each by the cases of a call, which `Calls` of each operation's crate has, and by what holds of every run. Assumes nothing.
 use Prim.Native.Nat.{ℕ, _≤_, _<_}
+use native.Mathlib.Omega.{arith}
 use mathlib.Core.Path.{_≡_, refl, sym, _∙_, ap, subst, subst₂}
 use mathlib.Core.Logic.{_↔_, _⊎_, inl, inr, ⊎-elim}
-use mathlib.Core.List.{List, _++_, List·Memᴰ·head}
-use lib.ListN.{length, take, drop}
+use mathlib.Core.List.{List, [], _∷_, _++_, List·Memᴰ·head, List·Memᴰ·tail}
+use lib.ListN.{length, take, drop, length-append}
 use lib.Seq.{take-at}
 use Rattle.calculus.specs.Term.{Term, text, size, Normal}
 use Rattle.calculus.specs.Order.{Step}
@@ -30,6 +31,9 @@ use Rattle.verdicts.proofs.Calls as compare
 use Rattle.joining.specs.Joining as joining
 use Rattle.joining.specs.Joins.{JoinsAs}
 use Rattle.joining.proofs.Calls.{joins-exactly}
+use Rattle.rows.specs.Ringing as ringing
+use Rattle.rows.specs.RingsAs.{RingsAs}
+use Rattle.rows.proofs.Exactly.{rings-exactly}
 use Rattle.derivation_files.specs.Checks.{ChecksAs}
 use Rattle.derivation_files.proofs.Listed.{checking-refused}
 use Rattle.derivation_files.proofs.Files.{accepted-exactly, claim-unique, claimed, accepted-derivable}
@@ -38,7 +42,7 @@ use Rattle.derivation_files.proofs.LaidOut.{laid-out}
 use Rattle.matching.proofs.Claims.{match-exactly}
 use Rattle.matching.proofs.Calls.{match-refused}
 use Rattle.codes.proofs.InC.{in-c}
-use Rattle.promises.specs.Demands.{StepRefuses, FinishRefuses, JoinRefuses, SteppedTo, RanTo, ComparedTo, Demands}
+use Rattle.promises.specs.Demands.{StepRefuses, FinishRefuses, JoinRefuses, RowsRefuse, SteppedTo, RanTo, ComparedTo, Demands}
 
 step-refused :
     {area work area′ work′ : List ℕ} {len number place : ℕ} →
@@ -144,6 +148,25 @@ join-refused (JoinsAs.first-refused r) = (inl (of-reading r), refl)
 join-refused (JoinsAs.second-refused t e r) = (inr (of-reading r), refl)
 join-refused (JoinsAs.too-large t u d e large) = (inl (Refuses.at-zero (List·Memᴰ·head refl) refl), refl)
 
+rows-refused :
+    {bytes table table′ : List ℕ} {n number place : ℕ} → RingsAs bytes n table (Reply.refused number place) table′ →
+    RowsRefuse bytes number place × (table′ ≡ table)
+rows-refused {bytes = bytes} {number = number} {place = place} (RingsAs.unread r) =
+    (listed (reading-refused bytes number place (reads-as-only r)), refl)
+  where
+    listed : Unread (length bytes) number place → RowsRefuse bytes number place
+    listed (Refuses.at-zero m here) = absurd (elim m [ ])
+    listed (Refuses.at-place m low high) = inl (Refuses.at-place m low high)
+rows-refused (RingsAs.too-few t e few) = (inl (Refuses.at-zero (List·Memᴰ·head refl) refl), refl)
+rows-refused (RingsAs.too-many t e many) = (inl (Refuses.at-zero (List·Memᴰ·head refl) refl), refl)
+rows-refused (RingsAs.no-chain t e none) = (inl (Refuses.at-zero (List·Memᴰ·head refl) refl), refl)
+rows-refused (RingsAs.uneven t bells e c low high none) = (inl (Refuses.at-zero (List·Memᴰ·tail (List·Memᴰ·head refl)) refl), refl)
+rows-refused (RingsAs.past-limit w large) = (inl (Refuses.at-zero (List·Memᴰ·tail (List·Memᴰ·head refl)) refl), refl)
+rows-refused (RingsAs.past-table w large) = (inl (Refuses.at-zero (List·Memᴰ·tail (List·Memᴰ·head refl)) refl), refl)
+rows-refused (RingsAs.bad-row good bad others w limited room all-good is-bad) =
+    let before = length-append good (bad ∷ others) in
+    (inr (Refuses.at-place (List·Memᴰ·head refl) (omega arith) (omega arith)), refl)
+
 -- the area of a run that is not refused holds the text of the term reached at its start
 reached-text :
     {area work area′ work′ : List ℕ} {len fuel n s : ℕ} {k : List ℕ} {o : Outcome} (r : RanTo area len work fuel o n k s area′ work′) →
@@ -183,6 +206,7 @@ demands =
           λ first second work first′ second′ work′ len₁ len₂ fuel number place e.
           compare-refused (subst (compare.Call first len₁ second len₂ work fuel) e (compare.call first len₁ second len₂ work fuel));
       joining-refuses = λ f g area area′ number place e. join-refused (joins-exactly f g area area′ (Reply.refused number place) .0 e);
+      rows-refuse = λ bytes n table table′ number place e. rows-refused (rings-exactly bytes n table table′ (Reply.refused number place) .0 e);
       checking-refuses = checking-refused;
       matching-refuses =
           λ first second number line e.
@@ -202,6 +226,7 @@ demands =
           compare-ran (subst (compare.Call first len₁ second len₂ work fuel) e (compare.call first len₁ second len₂ work fuel));
       run-finishes = λ area work len fuel t r. run-finishes;
       joins = joins-exactly;
+      rings = rings-exactly;
       checks = λ file reply. (λ e. subst (ChecksAs file) e (checks-as file), λ c. sym (checks-as-only file reply c));
       accepted-exactly = accepted-exactly;
       claimed = λ file n. claimed;

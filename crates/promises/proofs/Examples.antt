@@ -11,10 +11,12 @@ use Rattle.reading.specs.Reading.{readingOf, termRead}
 use Rattle.finishing.specs.Finishing.{finishingOf}
 use Rattle.counting.specs.Counting.{countingOf}
 use Rattle.joining.specs.Joining.{joiningOf}
+use Rattle.bell_rows.specs.Row.{isRow}
+use Rattle.rows.specs.Ringing.{ringingOf}
 use Rattle.derivation_files.specs.Line.{nameOf, premiseOf}
 use Rattle.derivation_files.specs.Checking.{checkingOf}
 use Rattle.promises.specs.Examples.{rows, made, stated}
 
 pub rows-hold : map made rows ≡ map stated rows
-unfolding made stated decLe letterOf termOf numberOf signOf signsOf typeOf contextOf readingOf termRead finishingOf countingOf joiningOf nameOf premiseOf checkingOf
+unfolding made stated decLe letterOf termOf numberOf signOf signsOf typeOf contextOf readingOf termRead finishingOf countingOf joiningOf isRow ringingOf nameOf premiseOf checkingOf
 rows-hold = refl

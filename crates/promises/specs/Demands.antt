@@ -1,8 +1,8 @@
 -- The three demands (REQUIREMENTS, Demands), stated over the definitions that the public operations promise to equal, and over the relations
 -- that those definitions are shown to agree with. `demands` of proofs/Demands.antt is the proof.
 -- That a call ends, does nothing undefined, and that its reply and every lent byte are those of these definitions, for every input, is what the
--- contract of each operation says; none has a `requires`. That no result is overlooked stands beside them, in specs/Results.antt, and what
--- joins do in specs/Joined.antt.
+-- contract of each operation says; none has a `requires`. That no result is overlooked stands beside them, in specs/Results.antt, what joins
+-- do in specs/Joined.antt, and what rows say in specs/RowsSay.antt.
 use Prim.Native.Nat.{ℕ, _≤_, _<_, min}
 use mathlib.Core.Path.{_≡_}
 use mathlib.Core.Bool.{true}
@@ -31,6 +31,8 @@ use Rattle.counting.specs.Counting as counting
 use Rattle.verdicts.specs.Comparing as comparing
 use Rattle.joining.specs.Joining as joining
 use Rattle.joining.specs.Joins.{JoinsAs}
+use Rattle.rows.specs.Ringing as ringing
+use Rattle.rows.specs.RingsAs.{RingsAs}
 use Rattle.derivation_files.specs.Checking.{checkingOf}
 use Rattle.derivation_files.specs.Checks.{ChecksAs}
 use Rattle.derivation_files.specs.Accepted.{Accepted, Claims}
@@ -49,6 +51,11 @@ FinishRefuses len number place = Refuses (1 ∷ 2 ∷ 3 ∷ 4 ∷ []) (5 ∷ 6 �
 -- those of joining: 31 at place 0, and reading's own of one of the terms
 abbrev pub JoinRefuses : (term : List ℕ) (number place : ℕ) → Type 0
 JoinRefuses term number place = Refuses (31 ∷ []) (5 ∷ 6 ∷ 7 ∷ []) 0 (length term) number place
+
+-- those of rows: reading's own, 20 and 21 at place 0, and 22 at the number of a row
+abbrev pub RowsRefuse : (bytes : List ℕ) (number place : ℕ) → Type 0
+RowsRefuse bytes number place =
+    Refuses (20 ∷ 21 ∷ []) (5 ∷ 6 ∷ 7 ∷ []) 0 (length bytes) number place ⊎ Refuses [] (22 ∷ []) 1 ringing.rowLimit number place
 
 -- those of checking: 10 to 13 at line 0, and 14 to 18 at a line of the file
 abbrev pub CheckRefuses : (file : List ℕ) (number line : ℕ) → Type 0
@@ -123,6 +130,10 @@ pub record Demands : Type 0 where
       (f g area area′ : List ℕ) (number place : ℕ) →
       joining.joiningOf f g area ≡ joining.After.after (Reply.refused number place) area′ →
       (JoinRefuses f number place ⊎ JoinRefuses g number place) × (area′ ≡ area)
+  pub rows-refuse :
+      (bytes : List ℕ) (n : ℕ) (table table′ : List ℕ) (number place : ℕ) →
+      ringing.ringingOf bytes n table ≡ ringing.After.after (Reply.refused number place) table′ →
+      RowsRefuse bytes number place × (table′ ≡ table)
   pub checking-refuses : (file : List ℕ) (number line : ℕ) → checkingOf file ≡ Reply.refused number line → CheckRefuses file number line
   pub matching-refuses :
       (first second : List ℕ) (number line : ℕ) →
@@ -165,6 +176,10 @@ pub record Demands : Type 0 where
   pub joins :
       (f g area area′ : List ℕ) (reply : Reply ℕ) →
       (joining.joiningOf f g area ≡ joining.After.after reply area′) ↔ JoinsAs f g area reply area′
+  -- so with rows: those of the chain, each tested before one is stored, and how many of them are different
+  pub rings :
+      (bytes : List ℕ) (n : ℕ) (table table′ : List ℕ) (reply : Reply ringing.Rung) →
+      (ringing.ringingOf bytes n table ≡ ringing.After.after reply table′) ↔ RingsAs bytes n table reply table′
   -- checking's reply is the one that its relation gives: the first bad line, and in it the first number
   pub checks : (file : List ℕ) (reply : Reply ℕ) → (checkingOf file ≡ reply) ↔ ChecksAs file reply
   pub accepted-exactly : (file : List ℕ) (n : ℕ) → (checkingOf file ≡ Reply.answered n) ↔ Accepted file n

@@ -1,5 +1,5 @@
--- The proved examples (REQUIREMENTS, Examples), twelve of the base, nine with bells, seven with counts, four on results and ten on joins,
--- as rows of one table over the operations' definitions.
+-- The proved examples (REQUIREMENTS, Examples), twelve of the base, nine with bells, seven with counts, four on results, ten on joins and
+-- fifteen on rows, as rows of one table over the operations' definitions.
 -- proofs/Examples.antt has the proof that covers it. Every expected reply was written by hand from the paper; the rules of examples 1 and 3 to 8, which it does not give, were
 -- worked out by hand from figure 1.
 use Prim.Native.Nat.{ℕ, _-_}
@@ -18,6 +18,7 @@ use Rattle.finishing.specs.Finishing.{Ran, After, finishingOf}
 use Rattle.words.specs.Word.{wordsIn}
 use Rattle.counting.specs.Counting as counting
 use Rattle.joining.specs.Joining as joining
+use Rattle.rows.specs.Ringing as ringing
 use Rattle.derivation_files.specs.Checking.{checkingOf}
 
 -- a call of an operation
@@ -25,15 +26,17 @@ pub data Call : Type 0 where
   finish : (term : String) (fuel area : ℕ) → Call
   finish-counted : (term : String) (fuel area lent : ℕ) → Call
   join : (f g : String) (area : ℕ) → Call
+  ring : (term : String) (bells table : ℕ) → Call
   read : (bytes : String) → Call
   check : (file : String) → Call
 
 -- what it answers; of a run also the rules used, in order, and the bytes of the term now in the area; of one with counts what the counts'
--- bytes say; of a join the size and the whole area
+-- bytes say; of a join the size and the whole area; of rows how many, how many different ones, and the whole table
 pub data Answer : Type 0 where
   ran : Outcome → (count : ℕ) (rules : List ℕ) (term : List ℕ) → Answer
   mixed : (byRule : List ℕ) → Answer
   joined : (size : ℕ) (area : List ℕ) → Answer
+  rung : (count different : ℕ) (table : List ℕ) → Answer
   size : ℕ → Answer
   accepted : (lines : ℕ) → Answer
   refused : (number place : ℕ) → Answer
@@ -62,6 +65,17 @@ joins f g area letters text zeros = Row.row (Call.join f g area) (Answer.joined 
 -- a join that is refused
 abbrev pub joins-not : (f g : String) (area number place : ℕ) → Row
 joins-not f g area number place = Row.row (Call.join f g area) (Answer.refused number place)
+
+-- the rows of a piece in a table of so many bytes, each 255 before: how many, how many different ones, and the table
+abbrev pub rings : (term : String) (bells table count different : ℕ) (held : List ℕ) → Row
+rings term bells table count different held = Row.row (Call.ring term bells table) (Answer.rung count different held)
+
+-- rows that are refused
+abbrev pub rings-not : (term : String) (bells table number place : ℕ) → Row
+rings-not term bells table number place = Row.row (Call.ring term bells table) (Answer.refused number place)
+
+abbrev pub zeros : ℕ → List ℕ
+zeros n = replicate n 0
 
 abbrev pub rows : List Row
 rows =
@@ -110,6 +124,21 @@ rows =
     (4 ∷ 8 ∷ 7 ∷ 6 ∷ 4 ∷ 8 ∷ 7 ∷ 6 ∷ 12 ∷ 8 ∷ 7 ∷ 7 ∷ 6 ∷ 12 ∷ 6 ∷ 8 ∷ 7 ∷ 7 ∷ 6 ∷ 12 ∷ 6 ∷ []) "H1H2H34" ∷
     runs ".AB1BAB2B3IHRJHRRJJIHRJHRRJJ4" ample-fuel ample-area Outcome.finished 21
     (4 ∷ 8 ∷ 7 ∷ 6 ∷ 12 ∷ 8 ∷ 7 ∷ 7 ∷ 6 ∷ 4 ∷ 8 ∷ 7 ∷ 6 ∷ 12 ∷ 8 ∷ 7 ∷ 7 ∷ 6 ∷ 12 ∷ 6 ∷ 6 ∷ []) "H1H2H34" ∷
+    rings "I" 2 0 0 0 [] ∷
+    rings-not "I" 13 0 20 0 ∷
+    rings-not "Jx" 1 0 7 1 ∷
+    rings-not "BJI" 2 24 20 0 ∷
+    rings-not "B1J" 2 24 20 0 ∷
+    rings-not ".II" 2 24 20 0 ∷
+    rings-not "B1I" 2 24 21 0 ∷
+    rings-not "B1B2I" 2 11 21 0 ∷
+    rings-not "B1B1I" 2 24 22 1 ∷
+    rings-not "B1B3I" 2 24 22 1 ∷
+    rings-not "B1B2B2B2I" 2 24 22 2 ∷
+    rings "B1B2I" 2 14 1 1 (1 ∷ 2 ∷ zeros 12) ∷
+    rings "B1B2B2B1I" 2 24 2 2 ((1 ∷ 2 ∷ zeros 10) ++ (2 ∷ 1 ∷ zeros 10)) ∷
+    rings "B1B2B1B2I" 2 24 2 1 ((1 ∷ 2 ∷ zeros 10) ++ (1 ∷ 2 ∷ zeros 10)) ∷
+    rings "BTBEB0B9B8B7B6B5B4B3B2B1I" 12 12 1 1 (12 ∷ 11 ∷ 10 ∷ 9 ∷ 8 ∷ 7 ∷ 6 ∷ 5 ∷ 4 ∷ 3 ∷ 2 ∷ 1 ∷ []) ∷
     []
 
 -- an area of that size with the term at its start
@@ -133,6 +162,10 @@ abbrev pub ofJoining : joining.After → Answer
 ofJoining (joining.After.after (Reply.refused number place) area) = Answer.refused number place
 ofJoining (joining.After.after (Reply.answered n) area) = Answer.joined n area
 
+abbrev pub ofRinging : ringing.After → Answer
+ofRinging (ringing.After.after (Reply.refused number place) table) = Answer.refused number place
+ofRinging (ringing.After.after (Reply.answered (ringing.Rung.rung count different)) table) = Answer.rung count different table
+
 abbrev pub ofReading : Reply ℕ → Answer
 ofReading (Reply.refused number place) = Answer.refused number place
 ofReading (Reply.answered n) = Answer.size n
@@ -148,6 +181,7 @@ answer (Call.finish term fuel area) =
 answer (Call.finish-counted term fuel area lent) =
     ofCounting (counting.countingOf (areaWith (ascii term) area) (length (ascii term)) (replicate area 0) fuel (replicate lent 255))
 answer (Call.join f g area) = ofJoining (joining.joiningOf (ascii f) (ascii g) (replicate area 255))
+answer (Call.ring term bells table) = ofRinging (ringing.ringingOf (ascii term) bells (replicate table 255))
 answer (Call.read bytes) = ofReading (readingOf (ascii bytes))
 answer (Call.check file) = ofChecking (checkingOf (ascii file))
 

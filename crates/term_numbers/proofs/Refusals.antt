@@ -26,6 +26,10 @@ use Rattle.joining.specs.Answer as joining
 use Rattle.joining.specs.declared.Joining.{Joining}
 use Rattle.joining.specs.declared.Joining.the-variants as join
 use Rattle.joining.proofs.Joining.{the-type as Joining-type}
+use Rattle.rows.specs.Answer as ringing
+use Rattle.rows.specs.declared.Ringing.{Ringing}
+use Rattle.rows.specs.declared.Ringing.the-variants as ring
+use Rattle.rows.proofs.Ringing.{the-type as Ringing-type}
 
 pub reading-refusal : (a : Reading) → OneOf (1 ∷ 2 ∷ 3 ∷ []) (tagOf Reading-type a) → Refusal (reading.answerOf a)
 reading-refusal (Whole size) k = absurd (miss (1 ∷ 2 ∷ 3 ∷ []) 0 tt k)
@@ -55,3 +59,10 @@ pub joining-refusal : (a : Joining) → OneOf (0 ∷ 1 ∷ []) (tagOf Joining-ty
 joining-refusal (join.Unread reading) k = refl
 joining-refusal join.TooLarge k = refl
 joining-refusal (join.Joined size) k = absurd (miss (0 ∷ 1 ∷ []) 2 tt k)
+
+pub ringing-refusal : (a : Ringing) → OneOf (0 ∷ 1 ∷ 2 ∷ 3 ∷ []) (tagOf Ringing-type a) → Refusal (ringing.answerOf a)
+ringing-refusal (ring.Unread reading) k = refl
+ringing-refusal ring.NoChain k = refl
+ringing-refusal ring.NoTable k = refl
+ringing-refusal (ring.BadRow number) k = refl
+ringing-refusal (ring.Rows count different) k = absurd (miss (0 ∷ 1 ∷ 2 ∷ 3 ∷ []) 4 tt k)

@@ -5,6 +5,7 @@ use finishing::Outcome;
 use finishing::Run;
 use joining::Joining;
 use reading::Reading;
+use rows::Ringing;
 use stepping::Stepping;
 use verdicts::Comparing;
 ghost use mathlib.Core.Path.{_≡_};
@@ -15,7 +16,8 @@ ghost use Rattle.finishing.specs.Answer.{outcomeOf, ranOf};
 ghost use Rattle.counting.specs.Answer.{replyOf as countedReply};
 ghost use Rattle.verdicts.specs.Answer.{answerOf as comparingAnswer};
 ghost use Rattle.joining.specs.Answer.{answerOf as joiningAnswer};
-ghost use Rattle.codes.specs.Encoding.{outcomeCode, readNumber, stepNumber, finishNumber, compareNumber, joinNumber};
+ghost use Rattle.rows.specs.Answer.{answerOf as ringingAnswer};
+ghost use Rattle.codes.specs.Encoding.{outcomeCode, readNumber, stepNumber, finishNumber, compareNumber, joinNumber, rowsNumber};
 
 // The number of reading's answer.
 pub fn read_number(answer: Reading) -> u64
@@ -90,5 +92,15 @@ pub fn join_number(answer: Joining) -> u64
     match answer {
         Joining::Joined(size) => codes::narrow(160, 0, size),
         _ => codes::wide(joining::number(answer), joining::place(answer)),
+    }
+}
+
+// The number of the answer that a piece's rows get.
+pub fn rows_number(answer: Ringing) -> u64
+    ensures { λ r. ⌜ r ≡ rowsNumber (ringingAnswer answer) ⌝ }
+{
+    match answer {
+        Ringing::Rows(count, different) => codes::narrow(130, count, different),
+        _ => codes::wide(rows::number(answer), rows::place(answer)),
     }
 }

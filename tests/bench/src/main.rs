@@ -2,7 +2,7 @@
 //!
 //!   bench [PICTURE.svg]     every table, and a chart where a path is given
 //!   bench --dear [STEPS]    every run of finishing that was tried to find the dearest, with so much fuel or with all
-//!   bench --only TABLE      one table: growth, small, short, counting, joining, checking, stack or dear
+//!   bench --only TABLE      one table: growth, small, short, counting, joining, rows, checking, stack or dear
 //!   bench --rows WORD       the rows of the first table whose names have this word
 //!
 //! Both are built for release. Each call starts from the term with zeros behind it and a zeroed work area. Built with
@@ -18,6 +18,7 @@ mod growth;
 mod joining;
 mod reducing;
 mod repeating;
+mod rows;
 mod short_runs;
 mod small;
 mod stack;
@@ -29,11 +30,12 @@ use reducing::Timed;
 use table::Table;
 
 /// The tables behind the first two, each with its name.
-const TABLES: [(&str, fn() -> Table); 7] = [
+const TABLES: [(&str, fn() -> Table); 8] = [
     ("small", small::table),
     ("short", short_runs::table),
     ("counting", counting::table),
     ("joining", joining::table),
+    ("rows", rows::table),
     ("checking", checking::table),
     ("stack", stack::table),
     ("dear", dear::table),

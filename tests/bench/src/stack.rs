@@ -4,6 +4,7 @@ use crate::reducing::areas_of;
 use crate::table::Table;
 use crate::terms::AREA;
 use engine::Linked;
+use harness::chains::{self, piece, row_at, Row};
 use harness::check_tests::{dear, doubling};
 use harness::deep::{deep_bells, deep_terms};
 use harness::end_tests::PLACES;
@@ -14,6 +15,7 @@ use harness::subject::Controller;
 use harness::terms::{joined, twice_nested};
 use second::comparing::Lent;
 use second::counting::COUNTS_SIZE;
+use second::rows::MOST_ROWS;
 use std::ffi::c_void;
 
 extern "C" {
@@ -129,10 +131,31 @@ fn joining(lent: Lending) -> String {
     })
 }
 
+/// A term rung as rows of two bells: nearly all are no chain.
+fn ringing(lent: Lending) -> String {
+    ringing_of(lent.text, 2)
+}
+
+fn ringing_of(text: Vec<u8>, bells: usize) -> String {
+    let mut table = vec![0; chains::PLACES * MOST_ROWS];
+    used(move || {
+        Linked.rows(&text, bells, &mut table);
+    })
+}
+
+/// A piece of as many rows as there may be, which is longer than a term area.
+fn piece_row(name: &str, rows: Vec<Row>) -> Vec<String> {
+    let (text, bells) = (piece(&rows), rows[0].len());
+    let reading = reading(Lending { name: String::new(), text: text.clone(), area: 0, fuel: 0 });
+    let none = || "-".to_string();
+    let letters = text.len().to_string();
+    vec![name.to_string(), letters, reading, none(), none(), none(), none(), none(), ringing_of(text, bells)]
+}
+
 fn term_row(lent: Lending) -> Vec<String> {
     let (name, letters) = (lent.name.clone(), lent.text.len().to_string());
-    let used =
-        [reading, stepping, finishing, counting, comparing, joining].map(|operation| operation(lent.clone()));
+    let used = [reading, stepping, finishing, counting, comparing, joining, ringing]
+        .map(|operation| operation(lent.clone()));
     [name, letters].into_iter().chain(used).collect()
 }
 
@@ -169,13 +192,18 @@ fn file_row(name: &str, file: Vec<u8>) -> Vec<String> {
         Linked.match_claims(&other, &other);
     });
     let none = || "-".to_string();
-    vec![name.to_string(), bytes, none(), none(), checking, none(), matching, none()]
+    vec![name.to_string(), bytes, none(), none(), checking, none(), matching, none(), none()]
 }
 
 pub fn table() -> Table {
     let mut rows: Vec<Vec<String>> = deep_terms().into_iter().map(deep).map(term_row).collect();
     rows.push(file_row("file: terms that double", doubling(14)));
     rows.push(file_row("file: short lines that cite two long ones", dear()));
+    rows.push(piece_row(
+        "piece: 1,000 rows, all different",
+        (0..1_000).map(|number| row_at(12, number)).collect(),
+    ));
+    rows.push(piece_row("piece: 1,000 rows, all equal", vec![row_at(12, 0); 1_000]));
     rows.extend(deep_bells().into_iter().map(deep).chain(long_runs()).map(term_row));
     Table::new(
         "Bytes of stack that a call of the engine uses",
@@ -188,6 +216,7 @@ pub fn table() -> Table {
             "counted",
             "comparing or matching",
             "joining",
+            "rows",
         ],
         rows,
     )

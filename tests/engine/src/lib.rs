@@ -1,4 +1,4 @@
-//! The engine's eight functions as `include/controller.h` declares them, on slices.
+//! The engine's nine functions as `include/controller.h` declares them, on slices.
 
 use harness::subject::Controller;
 use second::comparing::Lent;
@@ -43,6 +43,7 @@ extern "C" {
         area: *mut u8,
         area_size: usize,
     ) -> u64;
+    fn controller_rows(term: *const u8, term_size: usize, bells: usize, table: *mut u8, table_size: usize) -> u64;
     fn controller_check(file: *const u8, file_size: usize) -> u64;
     fn controller_match(first: *const u8, first_size: usize, second: *const u8, second_size: usize) -> u64;
 }
@@ -97,6 +98,10 @@ impl Controller for Linked {
 
     fn join(&self, f: &[u8], g: &[u8], area: &mut [u8]) -> u64 {
         unsafe { controller_join(f.as_ptr(), f.len(), g.as_ptr(), g.len(), area.as_mut_ptr(), area.len()) }
+    }
+
+    fn rows(&self, term: &[u8], bells: usize, table: &mut [u8]) -> u64 {
+        unsafe { controller_rows(term.as_ptr(), term.len(), bells, table.as_mut_ptr(), table.len()) }
     }
 
     fn check(&self, file: &[u8]) -> u64 {

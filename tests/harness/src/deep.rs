@@ -1,5 +1,6 @@
 //! Terms and files nested deep, each call on a thread with the stack that docs/FIRMWARE.md advises.
 
+use crate::chains::{piece, row_at, table_of, Row};
 use crate::lent::*;
 use crate::reply::from_words;
 use crate::step_tests::padded;
@@ -243,6 +244,60 @@ fn joins(suite: &mut Suite, label: &str, subject: impl Controller + Sync + Copy)
     }
 }
 
+/// Chains of millions of bells, and texts of as many letters that are none; what is said of each, whatever the table.
+fn million_bells() -> Vec<(Named, &'static str)> {
+    const MILLION: usize = 1_000_000;
+    const MORE: usize = 8_500_000;
+    let chain = |bells| joined(&[&repeated("B1B2", bells / 2), b"I"]);
+    let mut text = chain(MORE);
+    text.pop();
+    vec![
+        (("a million bells", chain(MILLION)), "21@0"),
+        (("a million and a bell", joined(&[b"B1", &chain(MILLION)])), "21@0"),
+        (("8,500,000 bells", chain(MORE)), "21@0"),
+        (("8,500,000 bells that end in J", joined(&[&text, b"J"])), "20@0"),
+        (("8,500,000 bells and no end", text.clone()), "6@17000000"),
+        (("8,500,000 bells and x", joined(&[&text, b"x"])), "5@17000000"),
+        (("8,500,000 bells and a letter behind the end", joined(&[&text, b"I1"])), "7@17000001"),
+        (("J before 8,500,000 bells", joined(&[b"BJ", &text, b"I"])), "20@0"),
+        (("8,500,000 bells behind a full stop", joined(&[b".I", &text, b"I"])), "20@0"),
+        (("R^17000000 J", index(2 * MORE)), "20@0"),
+        (("B^1000000 I^1000001", nested("B", MILLION, "I", MILLION + 1)), "20@0"),
+        (("B to the left, bells", nested("B", MILLION, "1", MILLION + 1)), "20@0"),
+        (("H1 a million times, I", joined(&[&repeated("H1", MILLION), b"I"])), "20@0"),
+    ]
+}
+
+/// A text of so many letters is refused, with room for 1,000 rows, for none, and with a wrong number of bells.
+fn rung_deep(subject: impl Controller + Sync, term: &[u8], reply: &str) -> Outcome {
+    for (bells, size) in [(2, 12_000), (2, 0), (12, 20_000), (13, 12_000)] {
+        let reply = if bells > 12 && reply == "21@0" { "20@0" } else { reply };
+        let rows = Rows { term: term.to_vec(), bells, table: vec![b'#'; size] };
+        let expected = (from_words(reply, 0), rows.table.clone());
+        on_advised_stack(|| demand_rows(&subject, &rows, &expected))?;
+    }
+    Ok(())
+}
+
+/// As many rows as there may be, in a table of 17 million bytes.
+fn rung_in_millions(subject: impl Controller + Sync) -> Outcome {
+    let all: Vec<Row> = (0..1_000).map(|number| row_at(12, number)).collect();
+    for size in [12_000, 17_000_000] {
+        let rows = Rows { term: piece(&all), bells: 12, table: vec![b'#'; size] };
+        let expected = (from_words("rung 1000", 1_000), table_of(&all, size));
+        on_advised_stack(|| demand_rows(&subject, &rows, &expected))?;
+    }
+    Ok(())
+}
+
+/// Rows of millions of letters, and tables of as many bytes.
+fn rows(suite: &mut Suite, label: &str, subject: impl Controller + Sync + Copy) {
+    for ((name, text), reply) in million_bells() {
+        suite.test(&format!("{label} deep rows: {name}"), || rung_deep(subject, &text, reply));
+    }
+    suite.test(&format!("{label} deep rows: 1,000 rows in 17,000,000 bytes"), || rung_in_millions(subject));
+}
+
 /// Matching of a file with deep terms and types with itself.
 fn matches(suite: &mut Suite, label: &str, subject: impl Controller + Sync + Copy) {
     for row in large_files() {
@@ -259,6 +314,7 @@ pub fn all(suite: &mut Suite, label: &str, subject: impl Controller + Sync + Cop
     counts(suite, label, subject, predict_counted::<Machine>);
     comparisons(suite, label, subject);
     joins(suite, label, subject);
+    rows(suite, label, subject);
     files(suite, label, subject);
     matches(suite, label, subject);
 }

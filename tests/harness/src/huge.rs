@@ -76,6 +76,17 @@ pub fn all(suite: &mut Suite, label: &str, subject: impl Controller) {
     suite.test(&format!("{label} joining: an area of 2^32 and 1 bytes and a bad g"), || {
         with_huge(OVER + 1, b"w", |area| replied(subject.join(b"J", b"Rx", area), "5@1"))
     });
+    suite.test(&format!("{label} rows: 2^32 and 1 bytes, a whole chain first"), || {
+        with_huge(OVER + 1, b"B1B2I", |term| replied(subject.rows(term, 2, &mut [7; 24]), "7@5"))
+    });
+    suite.test(&format!("{label} rows: a table of 2^32 and 1 bytes and a bad term"), || {
+        with_huge(OVER + 1, b"w", |table| {
+            replied(subject.rows(b"B1x", 2, table), "5@2")?;
+            replied(subject.rows(b"I", 13, table), "20@0")?;
+            replied(subject.rows(b"B1I", 2, table), "21@0")?;
+            replied(subject.rows(b"B1B1I", 2, table), "22@1")
+        })
+    });
     suite.test(&format!("{label} checking: a file of 2^32 and 12 bytes"), || {
         with_huge(OVER + LINE.len(), LINE, |file| replied(subject.check(file), "10@0"))
     });
@@ -118,6 +129,16 @@ fn joined_far(subject: &dyn Controller) -> Outcome {
     replied_with(subject.join(index, b"J", area.bytes()), "joined", PIECE)
 }
 
+/// One row in a table of 2^32 and 8 bytes, whose number of bytes is past 2^32 by fewer than a row takes. Its pages are
+/// one piece again and again; behind the row's own bytes all of it is zeros afterwards.
+fn rung_far(subject: &dyn Controller) -> Outcome {
+    let mut pages = Pages::folded(PIECE, OVER / PIECE + 1)?;
+    let table = &mut pages.bytes()[..OVER + 8];
+    table[..PIECE].fill(b'#');
+    replied_with(subject.rows(b"B1B2I", 2, table), "rung 1", 1)?;
+    equal("a byte that is not zero", table[12..PIECE].iter().position(|&byte| byte != 0), None)
+}
+
 /// Reading of over 2^32 letters.
 pub fn far(suite: &mut Suite, label: &str, subject: impl Controller) {
     suite.test(&format!("{label} reading: 2^32 and 5 letters R, and x"), || read_far(&subject));
@@ -129,4 +150,9 @@ pub fn far_joins(suite: &mut Suite, label: &str, subject: impl Controller) {
     suite.test(&format!("{label} joining: an index of 2^32 and 6 letters, and one that is none"), || {
         join_far(&subject)
     });
+}
+
+/// Rows in a table of over 2^32 bytes.
+pub fn far_rows(suite: &mut Suite, label: &str, subject: impl Controller) {
+    suite.test(&format!("{label} rows: a table of 2^32 and 8 bytes"), || rung_far(&subject));
 }

@@ -271,6 +271,39 @@ pub fn agree_join(subject: &dyn Controller, join: &Join) -> Outcome {
     }
 }
 
+/// A text, the number of bells of a row, and a table.
+#[derive(Clone)]
+pub struct Rows {
+    pub term: Vec<u8>,
+    pub bells: usize,
+    pub table: Vec<u8>,
+}
+
+/// What a call for rows replies, and the bytes of the table afterwards; the text stays as it is.
+pub type Rung = (u64, Vec<u8>);
+
+/// What the second implementation replies to a call for rows.
+pub fn predict_rows(rows: &Rows) -> Rung {
+    let mut table = rows.table.clone();
+    (Second::<Plain>::new().rows(&rows.term, rows.bells, &mut table), table)
+}
+
+/// Calls for rows, and demands the reply and every lent byte.
+pub fn demand_rows(subject: &dyn Controller, rows: &Rows, expected: &Rung) -> Outcome {
+    let (mut term, mut table) = (Guarded::new(&rows.term), Guarded::new(&rows.table));
+    let reply = subject.rows(term.area(), rows.bells, table.area());
+    let found = equal("reply", in_words(reply), in_words(expected.0))
+        .and_then(|()| term.expect("term", &rows.term))
+        .and_then(|()| table.expect("table", &expected.1));
+    let (bells, size) = (rows.bells, rows.table.len());
+    found.map_err(|what| format!("{what}; on {} bells {bells} table {size}", shown(&rows.term)))
+}
+
+/// Demands that a call for rows replies as the second implementation does.
+pub fn agree_rows(subject: &dyn Controller, rows: &Rows) -> Outcome {
+    demand_rows(subject, rows, &predict_rows(rows))
+}
+
 /// Calls checking on guarded bytes, and demands the reply and that no byte was changed.
 pub fn demand_check(subject: &dyn Controller, file: &[u8], reply: u64) -> Outcome {
     let mut lent = Guarded::new(file);

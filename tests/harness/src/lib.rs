@@ -1,5 +1,6 @@
 //! What a subject, the engine or the second implementation, is asked, and what it must reply.
 
+pub mod chains;
 pub mod changes;
 pub mod check_tests;
 pub mod compare_tests;
@@ -26,6 +27,8 @@ pub mod random;
 pub mod read_tests;
 pub mod reply;
 pub mod result_tests;
+pub mod row_laws;
+pub mod row_tests;
 pub mod runs;
 pub mod self_tests;
 pub mod small_tests;
@@ -41,3 +44,5 @@ pub mod wrong_batches;
 pub mod wrong_ends;
 pub mod wrong_joins;
 pub mod wrong_print;
+pub mod wrong_rows;
+pub mod wrong_tables;

@@ -3,6 +3,7 @@
 use second::comparing::Verdict;
 use second::finishing::{Outcome, Run};
 use second::refusal::Refusal;
+use second::rows::Rung;
 use second::stepping::{Next, Stepped};
 
 pub const NORMAL: u64 = 100;
@@ -16,11 +17,13 @@ pub const SAME: u64 = 113;
 pub const DIFFERENT: u64 = 114;
 pub const UNDECIDED: u64 = 115;
 pub const ACCEPTED: u64 = 120;
+pub const RUNG: u64 = 130;
 pub const JOINED: u64 = 160;
 pub const MATCH: u64 = 180;
 pub const NO_MATCH: u64 = 181;
 
-/// An answer: its code in bits 0 to 7, a value in bits 8 to 31, the term's size in bits 32 to 63.
+/// An answer: its code in bits 0 to 7, a value in bits 8 to 31, a size in bits 32 to 63: that of the term, or how many
+/// rows are different.
 pub fn pack(code: u64, value: u64, size: usize) -> u64 {
     assert!((100..256).contains(&code) && value < 1 << 24 && size < 1 << 32, "an answer's parts fit their bits");
     code | value << 8 | (size as u64) << 32
@@ -107,6 +110,10 @@ pub fn of_join(reply: Result<usize, Refusal>) -> u64 {
     reply.map_or_else(of_refusal, |size| pack(JOINED, 0, size % (1 << 32)))
 }
 
+pub fn of_rows(reply: Result<Rung, Refusal>) -> u64 {
+    reply.map_or_else(of_refusal, |rung| pack(RUNG, rung.rows as u64, rung.different))
+}
+
 pub fn of_match(reply: Result<bool, Refusal>) -> u64 {
     match reply {
         Ok(true) => pack(MATCH, 0, 0),
@@ -121,7 +128,8 @@ fn refusal_in(words: &str) -> Option<u64> {
     Some(placed(number.parse().ok()?, place.parse().ok()?))
 }
 
-/// The packed reply that a row's words name; `length` is that of the term the row ends with.
+/// The packed reply that a row's words name; `length` is that of the term the row ends with, or
+/// the number of different rows.
 pub fn from_words(words: &str, length: usize) -> u64 {
     if let Some(refusal) = refusal_in(words) {
         return refusal;
@@ -142,6 +150,7 @@ pub fn from_words(words: &str, length: usize) -> u64 {
         (_, "finished") => pack(FINISHED, value(), length),
         (_, "spent") => pack(SPENT, value(), length),
         (_, "no room") => pack(NO_ROOM, value(), length),
+        (_, "rung") => pack(RUNG, value(), length),
         (_, "accepted") => pack(ACCEPTED, value(), 0),
         _ => panic!("no reply has the words {words}"),
     }

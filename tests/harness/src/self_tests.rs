@@ -11,7 +11,8 @@ use crate::wrong_batch::Slip;
 use crate::wrong_batches::Batches;
 use crate::{
     check_tests, compare_tests, count_tests, deep, end_tests, finish_tests, huge, join_laws, join_tests,
-    machine_rules, machine_tests, match_tests, program_tests, read_tests, result_tests, small_tests, step_tests,
+    machine_rules, machine_tests, match_tests, program_tests, read_tests, result_tests, row_laws, row_tests,
+    small_tests, step_tests,
 };
 use second::anywhere::{nearest_normal, successors, Nearest};
 use second::checking::check;
@@ -190,6 +191,7 @@ fn known(suite: &mut Suite) {
     compare_tests::known(suite, "plain", plain);
     compare_tests::known(suite, "fast", fast);
     join_tests::known(suite, "plain", plain);
+    row_tests::known(suite, "second", plain);
     check_tests::known(suite, "second", plain);
     match_tests::known(suite, "second", plain);
     program_tests::known_finishing(suite, "second", plain);
@@ -208,6 +210,8 @@ fn made(suite: &mut Suite) {
     match_tests::made(suite, "second", plain);
     join_laws::made(suite, "plain", plain);
     join_laws::made(suite, "fast", fast);
+    row_laws::made(suite, "plain", plain);
+    row_laws::made(suite, "fast", fast);
     finish_tests::made(suite, "plain", plain);
     finish_tests::made(suite, "fast", fast);
     result_tests::made(suite, "plain", plain);

@@ -7,10 +7,11 @@ use second::counting;
 use second::finish_line;
 use second::finishing;
 use second::joining;
+use second::rows;
 use second::stepping::{self, Reducer};
 use std::marker::PhantomData;
 
-/// The eight functions of `include/controller.h`.
+/// The nine functions of `include/controller.h`.
 pub trait Controller {
     fn read(&self, slice: &[u8]) -> u64;
     fn step(&self, area: &mut [u8], term: usize, work: &mut [u8]) -> u64;
@@ -18,6 +19,7 @@ pub trait Controller {
     fn finish_counted(&self, area: &mut [u8], term: usize, work: &mut [u8], fuel: u64, counts: &mut [u8]) -> u64;
     fn compare(&self, first: Lent, second: Lent, work: &mut [u8], fuel: u64) -> u64;
     fn join(&self, f: &[u8], g: &[u8], area: &mut [u8]) -> u64;
+    fn rows(&self, term: &[u8], bells: usize, table: &mut [u8]) -> u64;
     fn check(&self, file: &[u8]) -> u64;
     fn match_claims(&self, first: &[u8], second: &[u8]) -> u64;
 }
@@ -75,6 +77,10 @@ impl<R: Reducer> Controller for Second<R> {
 
     fn join(&self, f: &[u8], g: &[u8], area: &mut [u8]) -> u64 {
         of_join(joining::join_texts(f, g, area))
+    }
+
+    fn rows(&self, term: &[u8], bells: usize, table: &mut [u8]) -> u64 {
+        of_rows(rows::ring(term, bells, table))
     }
 
     fn check(&self, file: &[u8]) -> u64 {

@@ -1,5 +1,6 @@
 //! Several threads that call at once, each on areas of its own: every reply and every lent byte is as alone.
 
+use crate::chains::{chain, random_row, Row, PLACES};
 use crate::deep::ADVISED_STACK;
 use crate::derivations::{file_of, some, Layout};
 use crate::lent::*;
@@ -20,6 +21,7 @@ enum Asked {
     Count(Counted, AfterCounted),
     Compare(Pair, Compared),
     Join(Join, Joined),
+    Rows(Rows, Rung),
     Read(Vec<u8>, u64),
     Check(Vec<u8>, u64),
     Match([Vec<u8>; 2], u64),
@@ -32,6 +34,7 @@ impl Asked {
             Asked::Count(counted, expected) => demand_counted(subject, counted, expected),
             Asked::Compare(pair, expected) => demand_pair(subject, pair, expected),
             Asked::Join(join, expected) => demand_join(subject, join, expected),
+            Asked::Rows(rows, expected) => demand_rows(subject, rows, expected),
             Asked::Read(slice, reply) => demand_read(subject, slice, *reply),
             Asked::Check(file, reply) => demand_check(subject, file, *reply),
             Asked::Match(files, reply) => demand_match(subject, [&files[0], &files[1]], *reply),
@@ -69,7 +72,20 @@ fn join(random: &mut Random, text: &[u8]) -> Asked {
     Asked::Join(join, expected)
 }
 
-/// One thread's calls: all eight functions in turn.
+/// Some rows, every third piece with a bell too many.
+fn rows(random: &mut Random) -> Asked {
+    let (bells, count) = (random.between(2, 12), random.between(1, 40));
+    let all: Vec<Row> = (0..count).map(|_| random_row(random, bells)).collect();
+    let mut numbers = all.concat();
+    if random.once_in(3) {
+        numbers.push(1);
+    }
+    let rows = Rows { term: chain(&numbers), bells, table: random.rubbish(PLACES * count + 30) };
+    let expected = predict_rows(&rows);
+    Asked::Rows(rows, expected)
+}
+
+/// One thread's calls: all nine functions in turn.
 fn calls(seed: u64) -> Vec<Asked> {
     let mut random = Random::new(seed);
     let second = Second::<Plain>::new();
@@ -83,6 +99,7 @@ fn calls(seed: u64) -> Vec<Asked> {
         asked.push(count(&mut random, &text));
         asked.push(compare(&mut random, &text));
         asked.push(join(&mut random, &text));
+        asked.push(rows(&mut random));
         asked.push(Asked::Read(text.clone(), second.read(&text)));
         asked.push(Asked::Check(file.clone(), second.check(&file)));
         let reply = second.match_claims(&file, &file);

@@ -3,7 +3,9 @@
 use crate::reply::*;
 use crate::subject::Controller;
 use crate::wrong_ends::{self, Damage};
-use crate::wrong_joins::{self, Joining, Slip};
+use crate::wrong_joins::{self, Joining};
+use crate::wrong_rows::{self, Ringing};
+use crate::wrong_tables;
 use second::comparing::Lent;
 use std::sync::atomic::{AtomicU64, Ordering};
 
@@ -43,7 +45,9 @@ pub struct Bug {
     /// What becomes of the counts of an answer, by the reply and the bytes that stood there before.
     stored: fn(u64, &[u8], &mut [u8]),
     /// What a call of joining comes to.
-    join: Slip,
+    join: wrong_joins::Slip,
+    /// What a call for rows comes to.
+    rows: wrong_rows::Slip,
     /// Is it to be seen at sizes past 2^32 alone?
     pub far: bool,
 }
@@ -59,6 +63,7 @@ const NONE: Bug = Bug {
     count,
     stored: |_, _, _| (),
     join: wrong_joins::join,
+    rows: wrong_rows::rows,
     far: false,
 };
 
@@ -92,12 +97,20 @@ const fn stores(name: &'static str, stored: fn(u64, &[u8], &mut [u8])) -> Bug {
     Bug { name, stored, ..NONE }
 }
 
-const fn joins(name: &'static str, join: Slip) -> Bug {
+const fn joins(name: &'static str, join: wrong_joins::Slip) -> Bug {
     Bug { name, join, ..NONE }
 }
 
-const fn joins_far(name: &'static str, join: Slip) -> Bug {
+const fn joins_far(name: &'static str, join: wrong_joins::Slip) -> Bug {
     Bug { name, join, far: true, ..NONE }
+}
+
+const fn rings(name: &'static str, rows: wrong_rows::Slip) -> Bug {
+    Bug { name, rows, ..NONE }
+}
+
+const fn rings_far(name: &'static str, rows: wrong_rows::Slip) -> Bug {
+    Bug { name, rows, far: true, ..NONE }
 }
 
 /// What becomes of the replies with one of these codes; the others stay.
@@ -311,7 +324,7 @@ fn counts_left_without_room(reply: u64, before: &[u8], counts: &mut [u8]) {
     }
 }
 
-static BUGS: [Bug; 69] = [
+static BUGS: [Bug; 138] = [
     replies("5 one place too far", |reply| changed(reply, &[5], |reply| reply + ONE)),
     replies("places of 24 bits", |reply| changed(reply, &[5, 6, 7], |reply| reply & 0xffff_ffff)),
     replies("a size read of 24 bits", |reply| changed(reply, &[WHOLE], |reply| reply & 0xffff_ffff)),
@@ -392,6 +405,78 @@ static BUGS: [Bug; 69] = [
     joins("the text of f written by joining", wrong_joins::first_text_written),
     joins_far("the size of a join reckoned in 32 bits", wrong_joins::size_reckoned_in_32_bits),
     joins_far("a size of more than 32 bits told as the largest", wrong_joins::largest_size_told),
+    replies("rung answered by 131", |reply| exchanged(reply, RUNG, RUNG + 1)),
+    replies("rows and different rows exchanged", |reply| match code(reply) {
+        RUNG => pack(RUNG, size(reply) as u64, value(reply) as usize),
+        _ => reply,
+    }),
+    replies("rows counted in 8 bits", |reply| changed(reply, &[RUNG], |reply| reply & !0xffff_0000)),
+    replies("different rows counted in 8 bits", |reply| changed(reply, &[RUNG], |reply| reply & 0xff_ffff_ffff)),
+    replies("one different row too many", |reply| changed(reply, &[RUNG], |reply| reply + ONE_LETTER)),
+    rings("a bell twice in a row taken", wrong_rows::bell_twice_taken),
+    rings("a bell above n in a row taken", wrong_rows::bell_above_taken),
+    rings("a row tested by the sum of its bells", wrong_rows::sums_tested),
+    rings("the first row alone tested", wrong_rows::first_row_tested_alone),
+    rings("the last row not tested", wrong_rows::last_row_not_tested),
+    rings("1,001 rows taken", wrong_rows::more_rows_taken),
+    rings("1,000 rows refused", wrong_rows::thousand_rows_refused),
+    rings("the rows of a table rounded up", wrong_rows::table_rounded_up),
+    rings("a table asked for a byte a bell", wrong_rows::table_of_bells),
+    rings("a table that rows fill refused", wrong_rows::full_table_refused),
+    rings("bells behind the last whole row left out", wrong_rows::last_bells_left_out),
+    rings("a chain of more than 16,384 letters refused", wrong_rows::large_term_refused),
+    rings("a table of more than 12,000 bytes refused", wrong_rows::large_table_refused),
+    rings("a chain that ends in J taken", wrong_rows::any_end_taken),
+    rings("a chain in the place of a bell taken", wrong_rows::chains_in_chains_taken),
+    rings("H in the place of a pair taken", wrong_rows::frozen_pairs_taken),
+    rings("a term finished before it is rung", wrong_rows::finished_first),
+    rings("the empty chain refused", wrong_rows::empty_chain_refused),
+    rings("a table of fewer than twelve bytes refused", wrong_rows::empty_table_refused),
+    rings("rows of twelve bells refused", wrong_rows::twelve_bells_refused),
+    rings("rows of two bells refused", wrong_rows::two_bells_refused),
+    rings("rows of one bell taken", wrong_rows::one_bell_taken),
+    rings("rows of no bells taken where there are none", wrong_rows::no_bells_taken),
+    rings("rows of thirteen bells taken where there are none", wrong_rows::thirteen_bells_taken),
+    rings("the bells of a row counted in 8 bits", wrong_rows::bells_of_8_bits),
+    rings("the bells of a row counted in 32 bits", wrong_rows::bells_of_32_bits),
+    rings("n tested ahead of reading", wrong_rows::bells_first),
+    rings("the table tested ahead of the chain", wrong_rows::table_before_chain),
+    rings("whole rows tested ahead of n", wrong_rows::rest_before_bells),
+    rings("rows tested ahead of the table", wrong_rows::bad_row_before_table),
+    rings("rows numbered from 0", wrong_rows::rows_numbered_from_0),
+    rings("a bad row told by its first bell", wrong_rows::bad_bell_told),
+    rings("the last bad row told", wrong_rows::last_bad_row_told),
+    rings("a bad row told in 8 bits", wrong_rows::row_told_in_8_bits),
+    rings("bytes behind the rows left", wrong_tables::bytes_behind_left),
+    rings("the last few bytes of a table left", wrong_tables::last_few_bytes_left),
+    rings("bytes of a table left from 12,000 on", wrong_tables::bytes_far_behind_left),
+    rings("one row behind the last cleared", wrong_tables::next_row_alone_cleared),
+    rings("unused places of a row left", wrong_tables::unused_places_left),
+    rings("unused places of a row numbered", wrong_tables::unused_places_numbered),
+    rings("bell ten stored as 0", wrong_tables::bell_ten_stored_as_0),
+    rings("bells eleven and twelve exchanged in the table", wrong_tables::eleven_and_twelve_exchanged),
+    rings("bells stored by their letters", wrong_tables::letters_stored),
+    rings("bells stored from 0", wrong_tables::bells_stored_from_0),
+    rings("rows stored backwards", wrong_tables::rows_stored_backwards),
+    rings("rows stored close together", wrong_tables::rows_stored_close),
+    rings("the last row stored first", wrong_tables::last_row_first),
+    rings("rows stored up to a bad one", wrong_tables::stored_up_to_a_bad_row),
+    rings("a bad row stored before it is refused", wrong_tables::bad_row_stored),
+    rings("a refused call clears the table", wrong_tables::cleared_by_a_refusal),
+    rings("rows stored as far as the table goes", wrong_tables::stored_as_far_as_it_goes),
+    rings("a byte written behind the table", wrong_tables::byte_behind_the_table),
+    rings("the piece written by ringing", wrong_tables::term_written),
+    rings("every row called different", wrong_tables::every_row_different),
+    rings("neighbours alone compared", wrong_tables::neighbours_compared),
+    rings("rows compared without their last two bells", wrong_tables::first_bells_compared),
+    rings("rows compared without their first two bells", wrong_tables::last_bells_compared),
+    rings("eight bells of a row compared", wrong_tables::eight_bells_compared),
+    rings("one bell of a row compared", wrong_tables::first_bell_compared),
+    rings("each row compared with the first alone", wrong_tables::first_row_compared),
+    rings("rows that come once counted as the different ones", wrong_tables::single_rows_counted),
+    rings("pairs of equal rows taken off the different ones", wrong_tables::equal_pairs_taken_off),
+    rings("rows compared by a number of 8 bits", wrong_tables::sums_compared),
+    rings_far("the bytes of a table counted in 32 bits", wrong_rows::table_of_32_bits),
 ];
 
 pub fn bugs() -> &'static [Bug] {
@@ -445,6 +530,10 @@ impl<C: Controller> Controller for Wrong<C> {
         let reply = (self.bug.join)(&self.subject, Joining { f, g, area: &mut *area });
         (self.bug.bytes)(reply, area, &mut []);
         (self.bug.reply)(reply)
+    }
+
+    fn rows(&self, term: &[u8], bells: usize, table: &mut [u8]) -> u64 {
+        (self.bug.reply)((self.bug.rows)(&self.subject, Ringing { term, bells, table }))
     }
 
     fn check(&self, file: &[u8]) -> u64 {

@@ -172,6 +172,10 @@ impl Controller for Batches {
         Second::<Machine>::new().join(f, g, area)
     }
 
+    fn rows(&self, term: &[u8], bells: usize, table: &mut [u8]) -> u64 {
+        Second::<Machine>::new().rows(term, bells, table)
+    }
+
     fn check(&self, file: &[u8]) -> u64 {
         Second::<Machine>::new().check(file)
     }

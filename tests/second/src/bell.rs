@@ -17,6 +17,11 @@ impl Bell {
         LETTERS[self.0]
     }
 
+    /// One to twelve.
+    pub fn number(self) -> u8 {
+        self.0 as u8 + 1
+    }
+
     /// The twelve bells, bell one first.
     pub fn all() -> [Bell; 12] {
         std::array::from_fn(Bell)

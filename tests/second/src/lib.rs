@@ -17,6 +17,7 @@ pub mod order;
 pub mod plain;
 pub mod reading;
 pub mod refusal;
+pub mod rows;
 pub mod rules;
 pub mod stepping;
 pub mod term;

@@ -24,6 +24,11 @@ pub const UNKNOWN_RULE: u8 = 16;
 pub const BAD_PREMISE: u8 = 17;
 pub const NOT_AN_INSTANCE: u8 = 18;
 pub const BAD_LINE_OF_INPUT: u8 = 19;
+/// The term is no chain of bells, or rows have no such number of bells.
+pub const NO_CHAIN: u8 = 20;
+/// The bells are no whole number of rows, or the rows are too many.
+pub const NO_TABLE: u8 = 21;
+pub const BAD_ROW: u8 = 22;
 pub const JOIN_TOO_LARGE: u8 = 31;
 
 /// The refusal `number` at `place`.

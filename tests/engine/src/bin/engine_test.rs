@@ -5,7 +5,7 @@
 //!   engine_test --bugs       the names of the bugs that can be planted in the engine's replies, and of the slips in
 //!                            an engine of the tests' own that steps in batches
 //!   engine_test --bug NAME   every test on the engine with that bug; the long runs on the one with that slip; the
-//!                            joins past 2^32 on the one whose bug shows there alone
+//!                            joins and rows past 2^32 on the one whose bug shows there alone
 
 use engine::Linked;
 use harness::lent::predict_fast;
@@ -15,7 +15,7 @@ use harness::wrong::{bugs, Wrong};
 use harness::wrong_batches::{Batches, SLIPS};
 use harness::{
     check_tests, compare_tests, count_tests, deep, end_tests, finish_tests, huge, join_laws, join_tests,
-    machine_tests, match_tests, read_tests, result_tests, small_tests, step_tests, threads,
+    machine_tests, match_tests, read_tests, result_tests, row_laws, row_tests, small_tests, step_tests, threads,
 };
 
 /// What was written by hand: quick, and enough to see most of the bugs that are planted.
@@ -27,12 +27,14 @@ fn known(suite: &mut Suite, subject: impl Controller + Copy) {
     count_tests::known(suite, "engine", subject);
     compare_tests::known(suite, "engine", subject);
     join_tests::known(suite, "engine", subject);
+    row_tests::known(suite, "engine", subject);
     check_tests::known(suite, "engine", subject);
     match_tests::known(suite, "engine", subject);
     read_tests::made(suite, "engine", subject);
     check_tests::made(suite, "engine", subject);
     match_tests::made(suite, "engine", subject);
     join_laws::made(suite, "engine", subject);
+    row_laws::made(suite, "engine", subject);
     count_tests::made(suite, "engine", subject);
     finish_tests::made(suite, "engine", subject);
     result_tests::made(suite, "engine", subject);
@@ -52,6 +54,7 @@ fn predicted(suite: &mut Suite, subject: impl Controller + Copy) {
     count_tests::long(suite, "engine", subject, 16, 65_537);
     compare_tests::predicted(suite, "engine", subject);
     join_tests::predicted(suite, "engine", subject);
+    row_tests::predicted(suite, "engine", subject);
     check_tests::predicted(suite, "engine", subject);
     match_tests::predicted(suite, "engine", subject);
 }
@@ -64,6 +67,7 @@ fn tests(subject: impl Controller + Sync + Copy) -> i32 {
     huge::all(&mut suite, "engine", subject);
     huge::far(&mut suite, "engine", subject);
     huge::far_joins(&mut suite, "engine", subject);
+    huge::far_rows(&mut suite, "engine", subject);
     threads::all(&mut suite, "engine", subject);
     machine_tests::all(&mut suite, "engine", subject);
     suite.end()
@@ -76,15 +80,16 @@ fn batch_tests(subject: impl Controller + Sync + Copy) -> i32 {
     suite.end()
 }
 
-/// Joins past 2^32 alone.
-fn far_tests(subject: impl Controller) -> i32 {
+/// Joins and rows past 2^32 alone.
+fn far_tests(subject: impl Controller + Copy) -> i32 {
     let mut suite = Suite::new();
+    huge::far_rows(&mut suite, "engine", subject);
     huge::far_joins(&mut suite, "engine", subject);
     suite.end()
 }
 
-/// Every test on the engine with a bug; long runs alone on the one that has a slip in its batches, and joins past
-/// 2^32 alone where the bug shows nowhere else.
+/// Every test on the engine with a bug; long runs alone on the one that has a slip in its batches, and joins and
+/// rows past 2^32 alone where the bug shows nowhere else.
 fn with_bug(name: &str) -> i32 {
     if let Some(&(_, slip)) = SLIPS.iter().find(|slip| slip.0 == name) {
         return batch_tests(Batches { slip });

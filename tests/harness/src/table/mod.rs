@@ -8,4 +8,5 @@ pub mod joining;
 pub mod matching;
 pub mod programs;
 pub mod reading;
+pub mod rows;
 pub mod stepping;

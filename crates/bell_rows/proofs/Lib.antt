@@ -1,0 +1,10 @@
+pub mod Numbers
+pub mod Chains
+pub mod Scanning
+pub mod Bells
+pub mod Keys
+pub mod Cutting
+pub mod Rows
+pub mod Each
+pub mod Places
+pub mod Back

@@ -1,0 +1,4 @@
+pub mod Chain
+pub mod Row
+pub mod Bytes
+pub mod Key

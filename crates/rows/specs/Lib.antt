@@ -1,0 +1,4 @@
+pub mod Ringing
+pub mod RingsAs
+pub mod Storing
+pub mod Answer
