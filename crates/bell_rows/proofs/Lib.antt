@@ -8,3 +8,4 @@ pub mod Rows
 pub mod Each
 pub mod Places
 pub mod Back
+pub mod LaidOut

@@ -1,20 +1,24 @@
 -- What rows say: by the laws of `bell_rows`, `repeats` and `rows`. Assumes nothing.
-use Prim.Native.Nat.{ℕ, zero, suc}
+use Prim.Native.Nat.{ℕ, zero, suc, _+_, _*_, _-_, _<_}
 use native.Mathlib.Omega.{arith}
 use mathlib.Core.Path.{_≡_, refl, sym, _∙_}
 use mathlib.Core.Logic.{_↔_}
 use mathlib.Core.Bool.{Bool, true, false}
-use mathlib.Core.List.{List}
+use mathlib.Core.List.{List, _++_}
 use borrow.Author.Tests.{leb-true, leb-false}
 use lib.Dec.{leb}
-use lib.ListN.{length}
+use lib.ListN.{length, getD, replicate, length-append, length-replicate, List·getD-append}
 use Rattle.reading.specs.Reply.{Reply}
 use Rattle.repeats.proofs.Repeats.{fits, different-exactly, all-different}
-use Rattle.bell_rows.specs.Row.{downToOne, times, RowOf}
+use Rattle.bell_rows.specs.Row.{most, downToOne, times, RowOf, laidOut}
+use Rattle.bell_rows.proofs.Cutting.{bells-cut}
 use Rattle.bell_rows.proofs.Rows.{down-within, within-down, down-once, times-none, times-once, row-long}
+use Rattle.bell_rows.proofs.LaidOut.{zeros-behind, laid-length, bell-at, unused-at}
+use Rattle.rows.specs.Ringing.{Rung, tableWith}
+use Rattle.rows.specs.RingsAs.{RingsAs}
 use Rattle.rows.proofs.Exactly.{rings-exactly, rows-decided}
 use Rattle.rows.proofs.Back.{read-back}
-use Rattle.promises.specs.RowsSay.{HoldsEachOnce, RowsSay}
+use Rattle.promises.specs.RowsSay.{HoldsEachOnce, Holds, RowsSay}
 
 -- the numbers from 1 to n hold each once
 down-each : (n : ℕ) → HoldsEachOnce n (downToOne n)
@@ -48,6 +52,32 @@ each-once n bells = (there, back)
             let above = leb-false (suc k) n e in
             holds .not-above (suc k) above ∙ sym (down-each n .not-above (suc k) above)
 
+-- rows that are laid out, with zeros behind them
+holds :
+    {bytes table table′ : List ℕ} {n count different : ℕ} →
+    RingsAs bytes n table (Reply.answered (Rung.rung count different)) table′ → Holds bytes n count table table′
+holds {table = table} {n = n} (RingsAs.rung {rows = rows} w limited room good d) =
+    record {
+      piece = w .piece;
+      spelt = w .spelt;
+      bells = w .bells;
+      chain = w .chain;
+      counted = bells-cut n (w .cut);
+      sized = omega (arith, length-append (laidOut rows) (replicate zeros 0), length-replicate {A = ℕ} zeros 0, long);
+      struck = λ i j h k. in-rows i j h (omega (arith, w .not-more)) ∙ bell-at n (w .not-more) (w .cut) i j h k;
+      unused = λ i j h low high. in-rows i j h high ∙ unused-at n (w .not-more) (w .cut) i j h low high;
+      behind = λ k h. zeros-behind (laidOut rows) zeros k (omega (arith, long));
+    }
+  where
+    zeros : ℕ
+    zeros = length table - length (laidOut rows)
+
+    long : length (laidOut rows) ≡ length rows * most
+    long = laid-length n (w .not-more) (w .cut)
+
+    in-rows : (i j : ℕ) → i < length rows → j < most → getD (tableWith rows table) (i * most + j) 0 ≡ getD (laidOut rows) (i * most + j) 0
+    in-rows i j h k = List·getD-append (laidOut rows) (replicate zeros 0) 0 (i * most + j) (omega (arith, long))
+
 pub rows-say : RowsSay
 rows-say =
     record {
@@ -60,6 +90,9 @@ rows-say =
             λ d. all-different rows-decided rows .0 (different-exactly rows-decided rows (length rows) .1 d),
             λ once. different-exactly rows-decided rows (length rows) .0 (all-different rows-decided rows .1 once),
           );
+      byte-by-byte =
+          λ bytes table table′ n count different e.
+          holds (rings-exactly bytes n table table′ (Reply.answered (Rung.rung count different)) .0 e);
       read-back =
           λ bytes₁ bytes₂ table₁ table₂ left n₁ n₂ r₁ r₂ e₁ e₂.
           read-back
