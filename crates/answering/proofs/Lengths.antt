@@ -22,7 +22,7 @@ use Rattle.finishing.specs.Finishing.{After}
 use Rattle.finishing.proofs.Calls.{Call, call}
 use Rattle.printing.specs.Printed.{lineOf, countOf}
 use Rattle.printing.proofs.Writing.{length-row}
-use Rattle.line_states.specs.Request.{Request, requestOf}
+use Rattle.finish_line.specs.Request.{Request, requestOf}
 use Rattle.answer_lines.specs.Shown.{word, refusedLine, shownRun, shownCheck}
 use Rattle.answering.specs.Program.{areaWith, requestLine, finishProgram}
 use Rattle.answering.proofs.Zeros.{zeros}

@@ -14,12 +14,13 @@ use Rattle.slices.specs.Put.{put, behind}
 use Rattle.reading.specs.Reply.{Reply}
 use Rattle.derivation_files.specs.Checking.{checkingOf}
 use Rattle.finishing.specs.Finishing.{After, finishingOf}
-use Rattle.line_states.specs.Request.{requestOf}
-use Rattle.line_states.specs.Request.{Request as Wanted}
+use Rattle.finish_line.specs.Request.{requestOf}
+use Rattle.finish_line.specs.Request.{Request as Wanted}
 use Rattle.finish_line.specs.Answer.{askedOf}
-use Rattle.line_states.specs.Fed.{fuelCap, lengthCap}
+use Rattle.line_states.specs.Fed.{numberCap, lengthCap}
 use Rattle.finish_line.specs.declared.Asked.{Asked}
-use Rattle.finish_line.proofs.Asks.{Answers, inputOf, after, line-answers}
+use Rattle.line_chunks.proofs.Says.{inputOf, after}
+use Rattle.finish_line.proofs.Asks.{Answers, line-answers}
 use Rattle.answer_lines.specs.Shown.{shownRun, shownCheck}
 use Rattle.answering.specs.Program.{shapeLine, areaWith, requested, finishProgram, checkProgram, unlessFailed}
 use Rattle.answering.specs.Answer.{made, printedRun}
@@ -40,7 +41,7 @@ module _ (n m : ℕ) (room : 16384 ≤ n) (work-room : 16384 ≤ m) where
       let front : take area buffer ≡ areaWith area term = ap (take area) kept ∙ kept-area n area term r room in
       let cleared : take area (zeros m) ≡ zeros area = take-zeros area m (omega arith) in
       ap (λ (a : Asked). made other of a buffer (zeros m)) e
-      ∙ ap₂ (λ (a w : List ℕ). of (finishingOf a (min (length term) lengthCap) w (min fuel fuelCap))) front cleared
+      ∙ ap₂ (λ (a w : List ℕ). of (finishingOf a (min (length term) lengthCap) w (min fuel numberCap))) front cleared
       ∙ ap of
       (capped (areaWith area term) (zeros area) (omega (arith, length-area area term)) (omega (arith, length-area area term, length-zeros area)) (length term) fuel)
 

@@ -5,7 +5,7 @@ use mathlib.Core.Bool.{Bool, true, false}
 use mathlib.Core.List.{List, [], _++_}
 use mathlib.Core.Option.{Option, none, some}
 use lib.ListN.{length, take, replicate}
-use Rattle.line_states.specs.Request.{Request, requestOf}
+use Rattle.finish_line.specs.Request.{Request, requestOf}
 use Rattle.finish_line.specs.Answer.{numberOf}
 use Rattle.finish_line.specs.declared.Asked.the-variants.{OtherShape}
 use Rattle.finishing.specs.Finishing.{After, finishingOf}

@@ -1,122 +1,127 @@
 -- A line that is fed the whole input, in chunks cut anywhere, asks for what `requestOf` says of the input, and its buffer holds the
--- term's first bytes. Carried by what the line has reached (`reached`), field by field. Assumes nothing.
+-- term's first bytes. Carried by what the line says of its parts (`line-says`), and that the cap changes no area size in range. Assumes
+-- nothing.
 use Prim.Native.Nat.{ℕ, _≤_, min}
+use native.Mathlib.Decide.{decLe}
 use native.Mathlib.Omega.{arith}
 use mathlib.Core.Path.{_≡_, refl, sym, _∙_, ap, ap₂, subst}
 use mathlib.Core.Logic.{_↔_}
+use mathlib.Core.Bool.{Bool, true, false, _&&_}
 use mathlib.Core.Option.{Option, none, some}
-use mathlib.Core.List.{List, [], _∷_, _++_, append-nil}
+use mathlib.Core.List.{List}
+use lib.Dec.{leb}
+use borrow.Author.Tests.{leb-true, le-leb, lt-leb}
 use lib.ListN.{length, take, length-take}
 use lib.Seq.{take-take, take-length}
-use Rattle.slices.specs.Split.{lineFeed}
+use Rattle.calculus.specs.Limits.{areaLimit}
+use Rattle.slices.proofs.Decimal.{and-both}
 use Rattle.line_states.specs.declared.Line.{Line}
-use Rattle.line_states.specs.declared.Line.the-variants.{InFuel, InArea, InTerm, Ended, Other}
+use Rattle.line_states.specs.declared.Line.the-variants.{InFirst, InSecond, InThird, Ended, Other}
+use Rattle.line_states.specs.Parts.{Parts, partsOf}
+use Rattle.line_states.specs.Fed.{numberCap, lengthCap}
+use Rattle.line_states.specs.Kept.{keptIn}
+use Rattle.line_states.specs.End.{endOf}
+use Rattle.line_states.proofs.Buffer.{kept-take}
+use Rattle.line_states.proofs.Caps.{number-exact}
+use Rattle.line_chunks.proofs.Says.{Says, inputOf, after, line-says}
 use Rattle.finish_line.specs.declared.Asked.{Asked}
 use Rattle.finish_line.specs.declared.Asked.the-variants.{OtherShape, Request}
-use Rattle.line_states.specs.Request.{requestOf}
-use Rattle.line_states.specs.Request.{Request as Wanted}
-use Rattle.line_states.specs.Fed.{fuelCap, lengthCap, startLine}
-use Rattle.line_states.specs.State.{State, state, fedByte, fed}
-use Rattle.finish_line.specs.Answer.{askedOf}
-use Rattle.line_states.specs.Kept.{keptIn}
-use Rattle.line_states.proofs.Shape.{fuel-open, area-open, term-open, ended-asks}
-use Rattle.line_states.proofs.Buffer.{kept-take}
-use Rattle.line_states.proofs.Reached.{number-field, first-field, second-field, Reached, reached}
+use Rattle.finish_line.specs.Request.{requestIf, isAreaSize, requestWith, requestOf}
+use Rattle.finish_line.specs.Request.{Request as Wanted}
+use Rattle.finish_line.specs.Answer.{askedIf, askedOf}
 
 -- what an input that asks for so much leaves in the answer and in the buffer
 abbrev pub Answers : (buffer : List ℕ) → Option Wanted → Asked → (buffer′ : List ℕ) → Type 0
 Answers buffer none asked buffer′ = asked ≡ OtherShape
 Answers buffer (some (Wanted.request fuel area term)) asked buffer′ =
-    (asked ≡ Request (min fuel fuelCap) area (min (length term) lengthCap)) × (buffer′ ≡ keptIn buffer (take lengthCap term))
+    (asked ≡ Request (min fuel numberCap) area (min (length term) lengthCap)) × (buffer′ ≡ keptIn buffer (take lengthCap term))
 
-module _ (d p buffer : List ℕ) where
-  -- bytes that ask for nothing
-  unasked : (asked : Asked) → asked ≡ OtherShape → requestOf p ≡ none → Answers d (requestOf p) asked buffer
-  unasked asked e none-asked = subst (λ (o : Option Wanted). Answers d o asked buffer) (sym none-asked) e
+-- the cap changes no area size in range, and makes none
+size-capped : (n : ℕ) → isAreaSize (min n numberCap) ≡ isAreaSize n
+size-capped n = go (decLe n numberCap)
+  where
+    go : Dec (n ≤ numberCap) → isAreaSize (min n numberCap) ≡ isAreaSize n
+    go (yes h) = let e : min n numberCap ≡ n = omega arith in ap isAreaSize e
+    go (no h) =
+        ap₂ _&&_
+        (le-leb 1 (min n numberCap) (omega arith) ∙ sym (le-leb 1 n (omega arith)))
+        (lt-leb (min n numberCap) areaLimit (omega arith) ∙ sym (lt-leb n areaLimit (omega arith)))
 
-  says : (line : Line) → Reached d p line buffer → Answers d (requestOf p) (askedOf line) buffer
-  says (InFuel number) (free, st, kept) = unasked OtherShape refl (fuel-open p free)
-  says (InArea fuel number) (r, kept) =
-      let field = number-field (r .first) (r .fuelled .number) (r .fuelled .reads) in
-      unasked OtherShape refl (ap requestOf (r .parted) ∙ area-open (r .first) field (r .second) (r .tabless))
-  says (InTerm fuel area len) r =
-      unasked OtherShape refl
-      (ap requestOf (r .parted) ∙ term-open (r .first) (first-field r) (r .second) (r .third) (second-field r) (r .third-field))
-  says (Ended fuel area len) (line, whole, r) =
-      let wanted : requestOf p ≡ some (Wanted.request (r .fuelled .number) area (r .third)) =
-      ap requestOf (whole ∙ ap (λ (s : List ℕ). s ++ (lineFeed ∷ [])) (r .parted))
-      ∙ ended-asks (r .first) (first-field r) (r .second) (r .third) (second-field r) (r .third-field)
-      (r .fuelled .number) area (r .fuelled .reads) (r .reads) (r .sized) in
-      subst (λ (o : Option Wanted). Answers d o (Request fuel area len) buffer) (sym wanted)
-      (ap₂ (λ (n k : ℕ). Request n area k) (r .fuelled .capped) (r .counted), r .kept)
-  says Other h = unasked OtherShape refl (ap requestOf (sym (append-nil p)) ∙ h [])
+size-exact : (n : ℕ) → isAreaSize n ≡ true → min n numberCap ≡ n
+size-exact n e =
+    let (low, high) = and-both (leb 1 n) (leb n areaLimit) e in
+    let most : n ≤ areaLimit = leb-true n areaLimit high in
+    number-exact n (omega arith)
 
--- a line before its first byte, with the buffer that is lent
-abbrev pub begun : List ℕ → State
-begun buffer = state startLine buffer
+-- a line that has not ended asks for nothing
+unended : (line : Line) → endOf line ≡ none → askedOf line ≡ OtherShape
+unended (InFirst number) e = refl
+unended (InSecond first number) e = refl
+unended (InThird first second number length) e = refl
+unended (Ended first second third length) e = cc
+unended Other e = refl
 
--- chunks fed one after the other
-abbrev pub fedChunks : State → List (List ℕ) → State
-fedChunks s [] = s
-fedChunks s (chunk ∷ chunks) = fedChunks (fed s chunk) chunks
+-- what the parts say is what the request answers
+parts-answer : (d buffer : List ℕ) (line : Line) (o : Option Parts) → Says d o line buffer
+    → Answers d (requestWith o) (askedOf line) buffer
+parts-answer d buffer line none e = unended line e
+parts-answer d buffer line (some (Parts.parts fuel area term)) (e, kept) = go (isAreaSize area) refl
+  where
+    asked : askedOf line ≡ askedIf (isAreaSize area) (min fuel numberCap) (min area numberCap) (min (length term) lengthCap)
+    asked =
+        ap askedOf e
+        ∙ ap (λ (t : Bool). askedIf t (min fuel numberCap) (min area numberCap) (min (length term) lengthCap)) (size-capped area)
 
--- the input that chunks are cut from
-abbrev pub inputOf : List (List ℕ) → List ℕ
-inputOf [] = []
-inputOf (chunk ∷ chunks) = chunk ++ inputOf chunks
-
-fed-append : (s : State) (a b : List ℕ) → fed s (a ++ b) ≡ fed (fed s a) b
-fed-append s [] b = refl
-fed-append s (x ∷ a) b = fed-append (fedByte s x) a b
-
--- however the input is cut, the line comes to the same
-pub fed-chunks : (s : State) (chunks : List (List ℕ)) → fedChunks s chunks ≡ fed s (inputOf chunks)
-fed-chunks s [] = refl
-fed-chunks s (chunk ∷ chunks) = fed-chunks (fed s chunk) chunks ∙ sym (fed-append s chunk (inputOf chunks))
+    go : (t : Bool) → isAreaSize area ≡ t → Answers d (requestIf t (Wanted.request fuel area term)) (askedOf line) buffer
+    go true sized = (
+      asked
+          ∙ ap₂ (λ (t : Bool) (n : ℕ). askedIf t (min fuel numberCap) n (min (length term) lengthCap)) sized (size-exact area sized),
+      kept,
+    )
+    go false sized =
+        asked ∙ ap (λ (t : Bool). askedIf t (min fuel numberCap) (min area numberCap) (min (length term) lengthCap)) sized
 
 module _ (buffer : List ℕ) (chunks : List (List ℕ)) where
-  -- the line and the buffer once the whole input was fed
-  abbrev pub after : State
-  after = fedChunks (begun buffer) chunks
-
   -- the whole answer: for every input, in chunks cut anywhere
-  pub line-answers : Answers buffer (requestOf (inputOf chunks)) (askedOf (after .line)) (after .buffer)
+  pub line-answers : Answers buffer (requestOf (inputOf chunks)) (askedOf (after buffer chunks .line)) (after buffer chunks .buffer)
+  unfolding requestOf
   line-answers =
-      subst (λ (s : State). Answers buffer (requestOf (inputOf chunks)) (askedOf (s .line)) (s .buffer))
-      (sym (fed-chunks (begun buffer) chunks))
-      (let s : State = fed (begun buffer) (inputOf chunks) in
-      says buffer (inputOf chunks) (s .buffer) (s .line) (reached buffer [] (inputOf chunks) (begun buffer) (tt, refl, refl)))
+      let s = after buffer chunks in
+      parts-answer buffer (s .buffer) (s .line) (partsOf (inputOf chunks)) (line-says buffer chunks)
+
+  abbrev Answered : Option Wanted → Type 0
+  Answered o = Answers buffer o (askedOf (after buffer chunks .line)) (after buffer chunks .buffer)
 
   -- of another shape exactly where the definition has no request
-  pub other-shape : (requestOf (inputOf chunks) ≡ none) ↔ (askedOf (after .line) ≡ OtherShape)
+  pub other-shape : (requestOf (inputOf chunks) ≡ none) ↔ (askedOf (after buffer chunks .line) ≡ OtherShape)
   other-shape = (
-    λ e. subst (λ (o : Option Wanted). Answers buffer o (askedOf (after .line)) (after .buffer)) e line-answers,
+    λ e. subst Answered e line-answers,
     go (requestOf (inputOf chunks)) line-answers,
   )
     where
-      go : (o : Option Wanted) → Answers buffer o (askedOf (after .line)) (after .buffer) → askedOf (after .line) ≡ OtherShape → o ≡ none
+      go : (o : Option Wanted) → Answered o → askedOf (after buffer chunks .line) ≡ OtherShape → o ≡ none
       go none answer e = refl
       go (some (Wanted.request fuel area term)) answer e = let asked = answer .0 in cc
 
   module _ (fuel area : ℕ) (term : List ℕ) (e : requestOf (inputOf chunks) ≡ some (Wanted.request fuel area term)) where
-    both : Answers buffer (some (Wanted.request fuel area term)) (askedOf (after .line)) (after .buffer)
-    both = subst (λ (o : Option Wanted). Answers buffer o (askedOf (after .line)) (after .buffer)) e line-answers
+    both : Answered (some (Wanted.request fuel area term))
+    both = subst Answered e line-answers
 
     -- a request's numbers: the area size is exact, fuel and length are exact up to their caps
-    pub request-asked : askedOf (after .line) ≡ Request (min fuel fuelCap) area (min (length term) lengthCap)
+    pub request-asked : askedOf (after buffer chunks .line) ≡ Request (min fuel numberCap) area (min (length term) lengthCap)
     request-asked = both .0
 
     -- each byte of the buffer: the term's first bytes, and behind them what stood there
-    pub request-kept : after .buffer ≡ keptIn buffer (take lengthCap term)
+    pub request-kept : after buffer chunks .buffer ≡ keptIn buffer (take lengthCap term)
     request-kept = both .1
 
     -- as many of the term's bytes as are counted and have room are read back
-    pub request-read : (n : ℕ) → n ≤ min (length term) lengthCap → n ≤ length buffer → take n (after .buffer) ≡ take n term
+    pub request-read : (n : ℕ) → n ≤ min (length term) lengthCap → n ≤ length buffer → take n (after buffer chunks .buffer) ≡ take n term
     request-read n counted room =
         ap (take n) request-kept
         ∙ kept-take buffer (take lengthCap term) n room (omega (arith, length-take lengthCap term))
         ∙ take-take n lengthCap term (omega arith)
 
     -- a term that has room is there whole
-    pub request-whole : length term ≤ lengthCap → length term ≤ length buffer → take (length term) (after .buffer) ≡ term
+    pub request-whole : length term ≤ lengthCap → length term ≤ length buffer → take (length term) (after buffer chunks .buffer) ≡ term
     request-whole counted room = request-read (length term) (omega arith) room ∙ take-length term

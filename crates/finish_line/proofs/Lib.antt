@@ -1,2 +1,2 @@
-pub mod Feeding
+pub mod Edges
 pub mod Asks

@@ -1,1 +1,3 @@
+pub mod Request
+pub mod Edges
 pub mod Answer

@@ -1,4 +1,4 @@
--- The buffer that holds a term's first bytes: one byte more is one store, and what is read back is the term. Assumes nothing.
+-- The buffer that holds a field's first bytes: one byte more is one store, and what is read back is the field. Assumes nothing.
 use Prim.Native.Nat.{ℕ, suc, _≤_, _<_}
 use native.Mathlib.Numerals.{add-one}
 use native.Mathlib.Decide.{decLt}

@@ -3,14 +3,14 @@ use Prim.Native.Nat.{ℕ, _≤_, _<_, min}
 use native.Mathlib.Omega.{arith}
 use mathlib.Core.Path.{_≡_}
 use Rattle.calculus.specs.Limits.{areaLimit, fuelLimit}
-use Rattle.line_states.specs.Fed.{fuelCap, lengthCap}
+use Rattle.line_states.specs.Fed.{numberCap, lengthCap}
 
--- fuel up to its limit is exact and more stays more, and so with a length and the largest area
-pub fuel-exact : (fuel : ℕ) → fuel ≤ fuelLimit → min fuel fuelCap ≡ fuel
-fuel-exact fuel h = omega arith
+-- a number up to the limit of fuel is exact, and more than a limit stays more; so with a length and the largest area
+pub number-exact : (n : ℕ) → n ≤ fuelLimit → min n numberCap ≡ n
+number-exact n h = omega arith
 
-pub fuel-over : (fuel : ℕ) → fuelLimit < fuel → fuelLimit < min fuel fuelCap
-fuel-over fuel h = omega arith
+pub number-over : (limit n : ℕ) → limit ≤ fuelLimit → limit < n → limit < min n numberCap
+number-over limit n h k = omega arith
 
 pub length-exact : (n : ℕ) → n ≤ areaLimit → min n lengthCap ≡ n
 length-exact n h = omega arith

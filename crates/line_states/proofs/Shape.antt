@@ -1,5 +1,5 @@
--- Which bytes no request begins with, and which bytes are one: the laws of `requestOf` that a line fed byte by byte needs. Carried by
--- what holds of the first line (`first-uncut`, `first-begun`). Assumes nothing.
+-- Which bytes no line of three fields begins with, and which bytes are one: the laws of `partsOf` that a line fed byte by byte needs.
+-- Carried by what holds of the first line (`first-uncut`, `first-begun`). Assumes nothing.
 use Prim.Native.Nat.{ℕ}
 use native.Mathlib.Omega.{arith}
 use mathlib.Core.Path.{_≡_, refl, _∙_, ap, ap₂}
@@ -11,104 +11,94 @@ use Rattle.slices.specs.Split.{tab, lineFeed, consFirst, cutOr, split, fields}
 use Rattle.slices.specs.Numeral.{decimalOf}
 use Rattle.slices.proofs.Splitting.{Free, free-append, pieces, split-front, split-piece, split-last}
 use Rattle.slices.proofs.Splitting.{First, first-map, Uncut, Begun, first-uncut, first-begun}
-use Rattle.line_states.specs.Request.{Request, requestIf, isAreaSize, requestWith, requestFields, requestLines, requestOf}
+use Rattle.line_states.specs.Parts.{Parts, partsWith, partsFields, partsLines, partsOf}
 
 -- a line up to the end of its third field
-abbrev pub threeFields : (fuel area term : List ℕ) → List ℕ
-threeFields fuel area term = fuel ++ (tab ∷ (area ++ (tab ∷ term)))
+abbrev pub threeFields : (first second third : List ℕ) → List ℕ
+threeFields first second third = first ++ (tab ∷ (second ++ (tab ∷ third)))
 
 -- a field: neither mark of a line stands in it
 abbrev pub Field : List ℕ → Type 0
 Field s = Free tab s × Free lineFeed s
 
--- a line whose fields are none of a request's
-abbrev Unasked : List ℕ → Type 0
-Unasked line = requestFields (fields line) ≡ none
+-- a line whose fields are not three, or whose numbers are none
+abbrev Unparted : List ℕ → Type 0
+Unparted line = partsFields (fields line) ≡ none
 
-lines-none : (line : List ℕ) (others : List (List ℕ)) → Unasked line → requestLines (line ∷ others) ≡ none
+lines-none : (line : List ℕ) (others : List (List ℕ)) → Unparted line → partsLines (line ∷ others) ≡ none
 lines-none line [] e = refl
 lines-none line ([] ∷ []) e = e
 lines-none line ((b ∷ bytes) ∷ []) e = refl
 lines-none line (next ∷ other ∷ more) e = refl
 
-first-line-none : {bytes : List ℕ} → First lineFeed Unasked bytes → requestOf bytes ≡ none
-unfolding requestOf
-first-line-none f = ap requestLines (f .cut) ∙ lines-none (f .first) (f .others) (f .holds)
+first-line-none : {bytes : List ℕ} → First lineFeed Unparted bytes → partsOf bytes ≡ none
+unfolding partsOf
+first-line-none f = ap partsLines (f .cut) ∙ lines-none (f .first) (f .others) (f .holds)
 
--- a second field that is no area size in range
-abbrev pub Unsized : List ℕ → Type 0
-Unsized area = (fuel : Option ℕ) (term : List ℕ) → requestWith fuel (decimalOf area) term ≡ none
+first-none : (a : List ℕ) (others : List (List ℕ)) → decimalOf a ≡ none → partsFields (a ∷ others) ≡ none
+first-none a [] e = refl
+first-none a (b ∷ []) e = refl
+first-none a (b ∷ c ∷ []) e = ap (λ (o : Option ℕ). partsWith o (decimalOf b) c) e
+first-none a (b ∷ c ∷ d ∷ more) e = refl
 
-pub unsized-none : (area : List ℕ) → decimalOf area ≡ none → Unsized area
-unsized-none area e none term = refl
-unsized-none area e (some n) term = ap (λ (o : Option ℕ). requestWith (some n) o term) e
+with-none : (o : Option ℕ) (third : List ℕ) → partsWith o none third ≡ none
+with-none none third = refl
+with-none (some n) third = refl
 
-pub unsized-range : (area : List ℕ) (m : ℕ) → decimalOf area ≡ some m → isAreaSize m ≡ false → Unsized area
-unsized-range area m e out none term = refl
-unsized-range area m e out (some n) term =
-    ap (λ (o : Option ℕ). requestWith (some n) o term) e
-    ∙ ap (λ (t : Bool). requestIf t (Request.request n m term)) out
+second-none : (a b : List ℕ) (others : List (List ℕ)) → decimalOf b ≡ none → partsFields (a ∷ b ∷ others) ≡ none
+second-none a b [] e = refl
+second-none a b (c ∷ []) e = ap (λ (o : Option ℕ). partsWith (decimalOf a) o c) e ∙ with-none (decimalOf a) c
+second-none a b (c ∷ d ∷ more) e = refl
 
-fuel-none : (fuel : List ℕ) (others : List (List ℕ)) → decimalOf fuel ≡ none → requestFields (fuel ∷ others) ≡ none
-fuel-none fuel [] e = refl
-fuel-none fuel (area ∷ []) e = refl
-fuel-none fuel (area ∷ term ∷ []) e = ap (λ (o : Option ℕ). requestWith o (decimalOf area) term) e
-fuel-none fuel (area ∷ term ∷ next ∷ more) e = refl
-
-area-none : (fuel area : List ℕ) (others : List (List ℕ)) → Unsized area → requestFields (fuel ∷ area ∷ others) ≡ none
-area-none fuel area [] e = refl
-area-none fuel area (term ∷ []) e = e (decimalOf fuel) term
-area-none fuel area (term ∷ next ∷ more) e = refl
-
-four-none : (fuel area term : List ℕ) (others : List (List ℕ)) (first : List ℕ) (more : List (List ℕ)) → others ≡ first ∷ more
-    → requestFields (fuel ∷ area ∷ term ∷ others) ≡ none
-four-none fuel area term others first more e = ap (λ (ps : List (List ℕ)). requestFields (fuel ∷ area ∷ term ∷ ps)) e
+four-none : (a b c : List ℕ) (others : List (List ℕ)) (d : List ℕ) (more : List (List ℕ)) → others ≡ d ∷ more
+    → partsFields (a ∷ b ∷ c ∷ others) ≡ none
+four-none a b c others d more e = ap (λ (ps : List (List ℕ)). partsFields (a ∷ b ∷ c ∷ ps)) e
 
 behind-none : (line : List ℕ) (b : ℕ) (u : Bool) (ps : List (List ℕ)) (first : List ℕ) (others : List (List ℕ)) → ps ≡ first ∷ others
-    → requestLines (line ∷ cutOr u b ps) ≡ none
-behind-none line b true ps first others e = ap (λ (qs : List (List ℕ)). requestLines (line ∷ cutOr true b qs)) e
-behind-none line b false ps first [] e = ap (λ (qs : List (List ℕ)). requestLines (line ∷ cutOr false b qs)) e
-behind-none line b false ps first (next ∷ more) e = ap (λ (qs : List (List ℕ)). requestLines (line ∷ cutOr false b qs)) e
+    → partsLines (line ∷ cutOr u b ps) ≡ none
+behind-none line b true ps first others e = ap (λ (qs : List (List ℕ)). partsLines (line ∷ cutOr true b qs)) e
+behind-none line b false ps first [] e = ap (λ (qs : List (List ℕ)). partsLines (line ∷ cutOr false b qs)) e
+behind-none line b false ps first (next ∷ more) e = ap (λ (qs : List (List ℕ)). partsLines (line ∷ cutOr false b qs)) e
 
--- ---- no request
+-- ---- no line
 
 -- one field
-pub fuel-open : (f : List ℕ) → Free tab f → requestOf f ≡ none
-fuel-open f free = first-line-none (first-map Unasked (λ p e. ap requestFields e) (first-uncut tab lineFeed f free))
+pub first-open : (f : List ℕ) → Free tab f → partsOf f ≡ none
+first-open f free = first-line-none (first-map Unparted (λ p e. ap partsFields e) (first-uncut tab lineFeed f free))
 
 -- a first field that is no number
-pub fuel-dead : (f rest : List ℕ) → Free tab f → decimalOf f ≡ none → requestOf (f ++ (tab ∷ rest)) ≡ none
-fuel-dead f rest free e = first-line-none (first-map Unasked unasked (first-begun tab lineFeed (omega arith) f rest free))
+pub first-dead : (f rest : List ℕ) → Free tab f → decimalOf f ≡ none → partsOf (f ++ (tab ∷ rest)) ≡ none
+first-dead f rest free e = first-line-none (first-map Unparted unparted (first-begun tab lineFeed (omega arith) f rest free))
   where
-    unasked : (p : List ℕ) → Begun tab f p → Unasked p
-    unasked p (Begun.uncut one) = ap requestFields one
-    unasked p (Begun.begun q more) = ap requestFields more ∙ fuel-none f (fields q) e
+    unparted : (p : List ℕ) → Begun tab f p → Unparted p
+    unparted p (Begun.uncut one) = ap partsFields one
+    unparted p (Begun.begun q more) = ap partsFields more ∙ first-none f (fields q) e
 
 module _ (f : List ℕ) (f-field : Field f) where
   -- the first line goes on behind a first field
-  behind-fuel : (P : List ℕ → Type 0) (s : List ℕ) → ((p : List ℕ) → P p → requestFields (f ∷ fields p) ≡ none) → First lineFeed P s
-      → requestOf (f ++ (tab ∷ s)) ≡ none
-  behind-fuel P s h g =
+  behind-first : (P : List ℕ → Type 0) (s : List ℕ) → ((p : List ℕ) → P p → partsFields (f ∷ fields p) ≡ none) → First lineFeed P s
+      → partsOf (f ++ (tab ∷ s)) ≡ none
+  behind-first P s h g =
       first-line-none
       (record {
         first = f ++ (tab ∷ g .first);
         others = g .others;
         cut = split-front lineFeed f (tab ∷ s) (f-field .1) (ap (consFirst tab) (g .cut));
-        holds = ap requestFields (split-piece tab f (g .first) (f-field .0)) ∙ h (g .first) (g .holds);
+        holds = ap partsFields (split-piece tab f (g .first) (f-field .0)) ∙ h (g .first) (g .holds);
       })
 
   -- two fields
-  pub area-open : (a : List ℕ) → Free tab a → requestOf (f ++ (tab ∷ a)) ≡ none
-  area-open a free =
-      behind-fuel (Uncut tab) a (λ p e. ap (λ (ps : List (List ℕ)). requestFields (f ∷ ps)) e) (first-uncut tab lineFeed a free)
+  pub second-open : (a : List ℕ) → Free tab a → partsOf (f ++ (tab ∷ a)) ≡ none
+  second-open a free =
+      behind-first (Uncut tab) a (λ p e. ap (λ (ps : List (List ℕ)). partsFields (f ∷ ps)) e) (first-uncut tab lineFeed a free)
 
-  -- a second field that is no area size
-  pub area-dead : (a rest : List ℕ) → Free tab a → Unsized a → requestOf (f ++ (tab ∷ (a ++ (tab ∷ rest)))) ≡ none
-  area-dead a rest free e = behind-fuel (Begun tab a) (a ++ (tab ∷ rest)) unasked (first-begun tab lineFeed (omega arith) a rest free)
+  -- a second field that is no number
+  pub second-dead : (a rest : List ℕ) → Free tab a → decimalOf a ≡ none → partsOf (f ++ (tab ∷ (a ++ (tab ∷ rest)))) ≡ none
+  second-dead a rest free e = behind-first (Begun tab a) (a ++ (tab ∷ rest)) unparted (first-begun tab lineFeed (omega arith) a rest free)
     where
-      unasked : (p : List ℕ) → Begun tab a p → requestFields (f ∷ fields p) ≡ none
-      unasked p (Begun.uncut one) = ap (λ (ps : List (List ℕ)). requestFields (f ∷ ps)) one
-      unasked p (Begun.begun q more) = ap (λ (ps : List (List ℕ)). requestFields (f ∷ ps)) more ∙ area-none f a (fields q) e
+      unparted : (p : List ℕ) → Begun tab a p → partsFields (f ∷ fields p) ≡ none
+      unparted p (Begun.uncut one) = ap (λ (ps : List (List ℕ)). partsFields (f ∷ ps)) one
+      unparted p (Begun.begun q more) = ap (λ (ps : List (List ℕ)). partsFields (f ∷ ps)) more ∙ second-none f a (fields q) e
 
   module _ (a t : List ℕ) (a-field : Field a) (t-field : Field t) where
     three-free : Free lineFeed (threeFields f a t)
@@ -130,12 +120,12 @@ module _ (f : List ℕ) (f-field : Field f) where
         (split-piece tab a t (a-field .0) ∙ ap (λ (ps : List (List ℕ)). a ∷ ps) (split-last tab t (t-field .0)))
 
     -- no line feed
-    pub term-open : requestOf (threeFields f a t) ≡ none
-    unfolding requestOf
-    term-open = ap requestLines (split-last lineFeed (threeFields f a t) three-free)
+    pub third-open : partsOf (threeFields f a t) ≡ none
+    unfolding partsOf
+    third-open = ap partsLines (split-last lineFeed (threeFields f a t) three-free)
 
     -- a third tab
-    pub tab-dead : (rest : List ℕ) → requestOf (threeFields f a t ++ (tab ∷ rest)) ≡ none
+    pub tab-dead : (rest : List ℕ) → partsOf (threeFields f a t ++ (tab ∷ rest)) ≡ none
     tab-dead rest =
         let g = pieces lineFeed rest in
         let h = pieces tab (g .first) in
@@ -145,26 +135,25 @@ module _ (f : List ℕ) (f-field : Field f) where
           others = g .others;
           cut = split-front lineFeed (threeFields f a t) (tab ∷ rest) three-free (ap (consFirst tab) (g .cut));
           holds =
-              ap requestFields (three-then (tab ∷ g .first) (split tab (g .first)) (split-piece tab t (g .first) (t-field .0)))
+              ap partsFields (three-then (tab ∷ g .first) (split tab (g .first)) (split-piece tab t (g .first) (t-field .0)))
               ∙ four-none f a t (split tab (g .first)) (h .first) (h .others) (h .cut);
         })
 
     -- bytes behind the line feed
-    pub ended-dead : (b : ℕ) (rest : List ℕ) → requestOf (threeFields f a t ++ (lineFeed ∷ b ∷ rest)) ≡ none
-    unfolding requestOf
+    pub ended-dead : (b : ℕ) (rest : List ℕ) → partsOf (threeFields f a t ++ (lineFeed ∷ b ∷ rest)) ≡ none
+    unfolding partsOf
     ended-dead b rest =
         let g = pieces lineFeed rest in
-        ap requestLines (split-piece lineFeed (threeFields f a t) (b ∷ rest) three-free)
+        ap partsLines (split-piece lineFeed (threeFields f a t) (b ∷ rest) three-free)
         ∙ behind-none (threeFields f a t) b (eqb b lineFeed) (split lineFeed rest) (g .first) (g .others) (g .cut)
 
-    -- ---- a request
+    -- ---- a line
 
-    -- the line feed behind three fields, two of them numbers, the second in range
-    pub ended-asks : (n m : ℕ) → decimalOf f ≡ some n → decimalOf a ≡ some m → isAreaSize m ≡ true
-        → requestOf (threeFields f a t ++ (lineFeed ∷ [])) ≡ some (Request.request n m t)
-    unfolding requestOf
-    ended-asks n m fuel area sized =
-        ap requestLines (split-piece lineFeed (threeFields f a t) [] three-free)
-        ∙ ap requestFields three-fields
-        ∙ ap₂ (λ (x y : Option ℕ). requestWith x y t) fuel area
-        ∙ ap (λ (u : Bool). requestIf u (Request.request n m t)) sized
+    -- the line feed behind three fields, two of them numbers
+    pub ended-parts : (n m : ℕ) → decimalOf f ≡ some n → decimalOf a ≡ some m
+        → partsOf (threeFields f a t ++ (lineFeed ∷ [])) ≡ some (Parts.parts n m t)
+    unfolding partsOf
+    ended-parts n m first second =
+        ap partsLines (split-piece lineFeed (threeFields f a t) [] three-free)
+        ∙ ap partsFields three-fields
+        ∙ ap₂ (λ (x y : Option ℕ). partsWith x y t) first second

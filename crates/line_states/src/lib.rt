@@ -1,36 +1,33 @@
-// The state of the finishing program's line, a byte at a time.
+// The state of a line of three fields, a byte at a time: two decimal numbers, then any bytes but tab and line feed.
 use decimals::Decimal;
 use decimals::Parsed;
 ghost use mathlib.Core.Path.{_≡_};
-ghost use Rattle.line_states.specs.Request.{isAreaSize};
-ghost use Rattle.line_states.specs.Fed.{startLine, fedLine, inFuel, fuelRead, inArea, areaRead, inTerm, counted};
+ghost use Rattle.line_states.specs.Fed.{startLine, fedLine, inFirst, firstRead, inSecond, secondRead, inThird, counted};
 
-// The largest area size, and the least fuel, area size and term length that are refused whatever they are.
-const AREA_LIMIT: u64 = calculus::AREA_LIMIT as u64;
-
-const FUEL_CAP: u64 = calculus::FUEL_LIMIT + 1;
-
-const AREA_CAP: u64 = AREA_LIMIT + 1;
+// The least number and the least length of the third field that are refused whatever they are.
+const NUMBER_CAP: u64 = calculus::FUEL_LIMIT + 1;
 
 pub const LENGTH_CAP: usize = calculus::AREA_LIMIT + 1;
 
-// The line so far, by the field that the next byte stands in. A number is kept up to its cap; the term's bytes are in a buffer that the
-// caller lends.
+// The line so far, by the field that the next byte stands in. Numbers and length are kept up to their caps; the third field is followed
+// as a decimal number too, and its bytes are in a buffer that the caller lends.
 pub enum Line {
-    InFuel(Decimal),
-    InArea {
-        fuel: u64,
+    InFirst(Decimal),
+    InSecond {
+        first: u64,
         number: Decimal,
     },
-    InTerm {
-        fuel: u64,
-        area: usize,
+    InThird {
+        first: u64,
+        second: u64,
+        number: Decimal,
         length: usize,
     },
     // Behind the line feed.
     Ended {
-        fuel: u64,
-        area: usize,
+        first: u64,
+        second: u64,
+        third: Decimal,
         length: usize,
     },
     // Behind bytes of another shape.
@@ -41,7 +38,7 @@ pub enum Line {
 pub fn start() -> Line
     ensures { λ r. ⌜ r ≡ startLine ⌝ }
 {
-    Line::InFuel(Decimal::Empty)
+    Line::InFirst(Decimal::Empty)
 }
 
 // The line with one byte more.
@@ -49,92 +46,94 @@ pub fn fed_line(line: Line, b: u8) -> Line
     ensures { λ r. ⌜ r ≡ fedLine line b ⌝ }
 {
     match line {
-        Line::InFuel(number) => in_fuel(number, b),
-        Line::InArea { fuel, number } => in_area(fuel, number, b),
-        Line::InTerm { fuel, area, length } => in_term(fuel, area, length, b),
+        Line::InFirst(number) => in_first(number, b),
+        Line::InSecond { first, number } => in_second(first, number, b),
+        Line::InThird {
+            first,
+            second,
+            number,
+            length,
+        } => in_third(first, second, number, length, b),
         Line::Ended { .. } => Line::Other,
         Line::Other => Line::Other,
     }
 }
 
-// A byte of the fuel field, or the tab that ends it.
-fn in_fuel(number: Decimal, b: u8) -> Line
-    ensures { λ r. ⌜ r ≡ inFuel «number» b ⌝ }
+// A byte of the first field, or the tab that ends it.
+fn in_first(number: Decimal, b: u8) -> Line
+    ensures { λ r. ⌜ r ≡ inFirst «number» b ⌝ }
 {
     if b == slices::TAB {
-        return fuel_read(decimals::number(number));
+        return first_read(decimals::number(number));
     }
-    Line::InFuel(decimals::feed(number, b, FUEL_CAP))
+    Line::InFirst(decimals::feed(number, b, NUMBER_CAP))
 }
 
-// The line behind the fuel field.
-fn fuel_read(parsed: Parsed) -> Line
-    ensures { λ r. ⌜ r ≡ fuelRead parsed ⌝ }
+// The line behind the first field.
+fn first_read(parsed: Parsed) -> Line
+    ensures { λ r. ⌜ r ≡ firstRead parsed ⌝ }
 {
-    let Parsed::Number(fuel) = parsed else {
+    let Parsed::Number(first) = parsed else {
         return Line::Other;
     };
-    Line::InArea {
-        fuel,
+    Line::InSecond {
+        first,
         number: Decimal::Empty,
     }
 }
 
-// A byte of the area field, or the tab that ends it.
-fn in_area(fuel: u64, number: Decimal, b: u8) -> Line
-    ensures { λ r. ⌜ r ≡ inArea fuel «number» b ⌝ }
+// A byte of the second field, or the tab that ends it.
+fn in_second(first: u64, number: Decimal, b: u8) -> Line
+    ensures { λ r. ⌜ r ≡ inSecond first «number» b ⌝ }
 {
     if b == slices::TAB {
-        return area_read(fuel, decimals::number(number));
+        return second_read(first, decimals::number(number));
     }
-    Line::InArea {
-        fuel,
-        number: decimals::feed(number, b, AREA_CAP),
+    Line::InSecond {
+        first,
+        number: decimals::feed(number, b, NUMBER_CAP),
     }
 }
 
-// The line behind the area field.
-fn area_read(fuel: u64, parsed: Parsed) -> Line
-    ensures { λ r. ⌜ r ≡ areaRead fuel parsed ⌝ }
+// The line behind the second field.
+fn second_read(first: u64, parsed: Parsed) -> Line
+    ensures { λ r. ⌜ r ≡ secondRead first parsed ⌝ }
 {
-    let Parsed::Number(area) = parsed else {
+    let Parsed::Number(second) = parsed else {
         return Line::Other;
     };
-    if is_area_size(area) {
-        return Line::InTerm {
-            fuel,
-            area: area as usize,
-            length: 0,
-        };
+    Line::InThird {
+        first,
+        second,
+        number: Decimal::Empty,
+        length: 0,
     }
-    Line::Other
 }
 
-// Whether an area size is in range.
-fn is_area_size(n: u64) -> bool
-    ensures { λ r. ⌜ r ≡ isAreaSize n ⌝ }
-{
-    1 <= n && n <= AREA_LIMIT
-}
-
-// A byte of the term field, or the line feed that ends it.
-fn in_term(fuel: u64, area: usize, length: usize, b: u8) -> Line
-    ensures { λ r. ⌜ r ≡ inTerm fuel area «length» b ⌝ }
+// A byte of the third field, or the line feed that ends it.
+fn in_third(first: u64, second: u64, number: Decimal, length: usize, b: u8) -> Line
+    ensures { λ r. ⌜ r ≡ inThird first second «number» «length» b ⌝ }
 {
     if b == slices::LINE_FEED {
-        return Line::Ended { fuel, area, length };
+        return Line::Ended {
+            first,
+            second,
+            third: number,
+            length,
+        };
     }
     if b == slices::TAB {
         return Line::Other;
     }
-    Line::InTerm {
-        fuel,
-        area,
+    Line::InThird {
+        first,
+        second,
+        number: decimals::feed(number, b, NUMBER_CAP),
         length: one_longer(length),
     }
 }
 
-// The length of a term with one byte more, at most the cap.
+// The length of a field with one byte more, at most the cap.
 fn one_longer(length: usize) -> usize
     ensures { λ r. ⌜ r ≡ counted «length» ⌝ }
 {

@@ -14,9 +14,9 @@ use Rattle.calculus.proofs.Counts.{tally-below}
 use Rattle.finishing.specs.Finishing.{After}
 use Rattle.finishing.proofs.Calls.{Call, call}
 use Rattle.answer_lines.specs.Shown.{shownRun}
-use Rattle.line_states.specs.Request.{Request, requestOf}
+use Rattle.finish_line.specs.Request.{Request, requestOf}
 use Rattle.finish_line.specs.Answer.{askedOf}
-use Rattle.finish_line.proofs.Asks.{inputOf, after}
+use Rattle.line_chunks.proofs.Says.{inputOf, after}
 use Rattle.answering.specs.Program.{shapeLine, areaWith, requested, unlessFailed}
 use Rattle.answering.proofs.Zeros.{zeros}
 use Rattle.answering.proofs.Lengths.{call-length, refused-length}

@@ -6,7 +6,7 @@ use mathlib.Core.List.{List, [], _∷_}
 use Rattle.reading.specs.Reply.{Reply}
 use Rattle.finishing.specs.Finishing.{After, countsOf}
 use Rattle.answer_lines.specs.Shown.{shownRun}
-use Rattle.line_states.specs.Request.{requestOf}
+use Rattle.finish_line.specs.Request.{requestOf}
 use Rattle.finish_line.specs.declared.Asked.{Asked}
 use Rattle.answering.specs.Program.{shapeLine, requested}
 use Rattle.answering.specs.Answer.{made}

@@ -16,19 +16,19 @@ use Rattle.feeding.proofs.feed_all.Statement.{statement}
 use Rattle.feeding.proofs.feed_all.Tie as tie
 
 abbrev Inv-loop : tie.InvT-loop
-Inv-loop term₀ failed line₀ got₀ turns₀ term line got turns =
-    (length term ≡ length term₀) × ReadOn (state startLine term₀) (state line term) (toZ w64 got)
+Inv-loop kept₀ failed line₀ got₀ turns₀ kept line got turns =
+    (length kept ≡ length kept₀) × ReadOn (state startLine kept₀) (state line kept) (toZ w64 got)
 
 abbrev μ-loop : tie.MeasureT-loop
-μ-loop term₀ failed line₀ got₀ turns₀ term line got turns = turns
+μ-loop kept₀ failed line₀ got₀ turns₀ kept line got turns = turns
 
 start-requires : tie.Need-start-requires Inv-loop μ-loop
 start-requires c κs = search needs
 
 loop-holds : tie.Need-loop-holds Inv-loop μ-loop
 loop-holds c =
-    let term = c .before .before .args .term .now in
-    (refl, subst (λ (l : Line). ReadOn (state startLine term) (state l term) (pos 1)) (sym (c .start .ensures)) ReadOn.unread)
+    let kept = c .before .before .args .kept .now in
+    (refl, subst (λ (l : Line). ReadOn (state startLine kept) (state l kept) (pos 1)) (sym (c .start .ensures)) ReadOn.unread)
 
 feed-some-requires : tie.Need-feed-some-requires Inv-loop μ-loop
 feed-some-requires c κs = search needs

@@ -15,6 +15,9 @@ enum-told-3 c = search needs
 enum-known-line : tie.Need-enum-known-line
 enum-known-line c = search needs
 
+asked-with-requires : tie.Need-asked-with-requires
+asked-with-requires c κs = search needs
+
 enum-told-4 : tie.Need-enum-told-4
 enum-told-4 c = search needs
 
@@ -28,7 +31,7 @@ returns-3 : tie.Need-returns-3
 returns-3 c = search needs
 
 returns-4 : tie.Need-returns-4
-returns-4 c = rw (c .before .line .given .1)
+returns-4 c = rw (c .before .before .line .given .1) (c .asked-with .ensures)
 
 returns-5 : tie.Need-returns-5
 returns-5 c = search needs
@@ -41,6 +44,7 @@ asked-for-spec =
     enum-told-2
     enum-told-3
     enum-known-line
+    asked-with-requires
     enum-told-4
     returns
     returns-2

@@ -6,20 +6,20 @@ use Rattle.line_states.proofs.fed_line.Tie as tie
 enum-known-line : tie.Need-enum-known-line
 enum-known-line c = search needs
 
-in-fuel-requires : tie.Need-in-fuel-requires
-in-fuel-requires c κs = search needs
+in-first-requires : tie.Need-in-first-requires
+in-first-requires c κs = search needs
 
 enum-known-line-2 : tie.Need-enum-known-line-2
 enum-known-line-2 c = search needs
 
-in-area-requires : tie.Need-in-area-requires
-in-area-requires c κs = search needs
+in-second-requires : tie.Need-in-second-requires
+in-second-requires c κs = search needs
 
 enum-known-line-3 : tie.Need-enum-known-line-3
 enum-known-line-3 c = search needs
 
-in-term-requires : tie.Need-in-term-requires
-in-term-requires c κs = search needs
+in-third-requires : tie.Need-in-third-requires
+in-third-requires c κs = search needs
 
 enum-told : tie.Need-enum-told
 enum-told c = search needs
@@ -28,13 +28,13 @@ enum-told-2 : tie.Need-enum-told-2
 enum-told-2 c = search needs
 
 returns : tie.Need-returns
-returns c = rw (c .before .before .line .given .1) (c .in-fuel .ensures)
+returns c = rw (c .before .before .line .given .1) (c .in-first .ensures)
 
 returns-2 : tie.Need-returns-2
-returns-2 c = rw (c .before .before .line2 .given .1) (c .in-area .ensures)
+returns-2 c = rw (c .before .before .line2 .given .1) (c .in-second .ensures)
 
 returns-3 : tie.Need-returns-3
-returns-3 c = rw (c .before .before .line3 .given .1) (c .in-term .ensures)
+returns-3 c = rw (c .before .before .line3 .given .1) (c .in-third .ensures)
 
 returns-4 : tie.Need-returns-4
 returns-4 c = search needs
@@ -47,11 +47,11 @@ fed-line-spec =
     tie.close
     (tie.spec
     enum-known-line
-    in-fuel-requires
+    in-first-requires
     enum-known-line-2
-    in-area-requires
+    in-second-requires
     enum-known-line-3
-    in-term-requires
+    in-third-requires
     enum-told
     enum-told-2
     returns
