@@ -19,7 +19,8 @@ use Rattle.reading.specs.Reply.{Reply}
 use Rattle.reading.specs.Reading.{atLetter, readingFrom, readingOf}
 use Rattle.reading.specs.Arity.{arityOfLetter, arityOf}
 
-owed-sum : (l : Letter) (k : ℕ) → owed l k ≡ k + owed l 0
+-- the terms owed behind a letter are those owed before and those that it takes
+pub owed-sum : (l : Letter) (k : ℕ) → owed l k ≡ k + owed l 0
 owed-sum Letter.J k = sym (add-zero k)
 owed-sum Letter.R k = sym (add-one k)
 owed-sum Letter.H k = sym (add-two k)
