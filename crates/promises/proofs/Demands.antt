@@ -34,6 +34,8 @@ use Rattle.joining.proofs.Calls.{joins-exactly}
 use Rattle.rows.specs.Ringing as ringing
 use Rattle.rows.specs.RingsAs.{RingsAs}
 use Rattle.rows.proofs.Exactly.{rings-exactly}
+use Rattle.small_terms.specs.Sweep.{SweepsAs}
+use Rattle.small_terms.proofs.Sweeps.{sweeps-exactly}
 use Rattle.derivation_files.specs.Checks.{ChecksAs}
 use Rattle.derivation_files.proofs.Listed.{checking-refused}
 use Rattle.derivation_files.proofs.Files.{accepted-exactly, claim-unique, claimed, accepted-derivable}
@@ -42,7 +44,7 @@ use Rattle.derivation_files.proofs.LaidOut.{laid-out}
 use Rattle.matching.proofs.Claims.{match-exactly}
 use Rattle.matching.proofs.Calls.{match-refused}
 use Rattle.codes.proofs.InC.{in-c}
-use Rattle.promises.specs.Demands.{StepRefuses, FinishRefuses, JoinRefuses, RowsRefuse, SteppedTo, RanTo, ComparedTo, Demands}
+use Rattle.promises.specs.Demands.{StepRefuses, FinishRefuses, JoinRefuses, RowsRefuse, SweepRefuses, SteppedTo, RanTo, ComparedTo, Demands}
 
 step-refused :
     {area work area′ work′ : List ℕ} {len number place : ℕ} →
@@ -167,6 +169,13 @@ rows-refused (RingsAs.bad-row good bad others w limited room all-good is-bad) =
     let before = length-append good (bad ∷ others) in
     (inr (Refuses.at-place (List·Memᴰ·head refl) (omega arith) (omega arith)), refl)
 
+sweep-refused : {n fuel area number place : ℕ} → SweepsAs n fuel area (Reply.refused number place) → SweepRefuses number place
+sweep-refused (SweepsAs.not-swept h) = Refuses.at-zero (List·Memᴰ·head refl) refl
+sweep-refused (SweepsAs.fuel-too-high s h) = Refuses.at-zero (List·Memᴰ·tail (List·Memᴰ·head refl)) refl
+sweep-refused (SweepsAs.area-too-long s f h) = Refuses.at-zero (List·Memᴰ·tail (List·Memᴰ·tail (List·Memᴰ·head refl))) refl
+sweep-refused (SweepsAs.area-too-short s f a h) =
+    Refuses.at-zero (List·Memᴰ·tail (List·Memᴰ·tail (List·Memᴰ·tail (List·Memᴰ·head refl)))) refl
+
 -- the area of a run that is not refused holds the text of the term reached at its start
 reached-text :
     {area work area′ work′ : List ℕ} {len fuel n s : ℕ} {k : List ℕ} {o : Outcome} (r : RanTo area len work fuel o n k s area′ work′) →
@@ -207,6 +216,7 @@ demands =
           compare-refused (subst (compare.Call first len₁ second len₂ work fuel) e (compare.call first len₁ second len₂ work fuel));
       joining-refuses = λ f g area area′ number place e. join-refused (joins-exactly f g area area′ (Reply.refused number place) .0 e);
       rows-refuse = λ bytes n table table′ number place e. rows-refused (rings-exactly bytes n table table′ (Reply.refused number place) .0 e);
+      sweep-refuses = λ n fuel area number place e. sweep-refused (sweeps-exactly n fuel area (Reply.refused number place) .0 e);
       checking-refuses = checking-refused;
       matching-refuses =
           λ first second number line e.
@@ -227,6 +237,7 @@ demands =
       run-finishes = λ area work len fuel t r. run-finishes;
       joins = joins-exactly;
       rings = rings-exactly;
+      sweeps = sweeps-exactly;
       checks = λ file reply. (λ e. subst (ChecksAs file) e (checks-as file), λ c. sym (checks-as-only file reply c));
       accepted-exactly = accepted-exactly;
       claimed = λ file n. claimed;

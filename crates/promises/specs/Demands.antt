@@ -2,7 +2,7 @@
 -- that those definitions are shown to agree with. `demands` of proofs/Demands.antt is the proof.
 -- That a call ends, does nothing undefined, and that its reply and every lent byte are those of these definitions, for every input, is what the
 -- contract of each operation says; none has a `requires`. That no result is overlooked stands beside them, in specs/Results.antt, what joins
--- do in specs/Joined.antt, and what rows say in specs/RowsSay.antt.
+-- do in specs/Joined.antt, what rows say in specs/RowsSay.antt, and what a sweep says of small terms in specs/SmallTerms.antt.
 use Prim.Native.Nat.{ℕ, _≤_, _<_, min}
 use mathlib.Core.Path.{_≡_}
 use mathlib.Core.Bool.{true}
@@ -33,6 +33,7 @@ use Rattle.joining.specs.Joining as joining
 use Rattle.joining.specs.Joins.{JoinsAs}
 use Rattle.rows.specs.Ringing as ringing
 use Rattle.rows.specs.RingsAs.{RingsAs}
+use Rattle.small_terms.specs.Sweep.{Swept, sweepOf, SweepsAs}
 use Rattle.derivation_files.specs.Checking.{checkingOf}
 use Rattle.derivation_files.specs.Checks.{ChecksAs}
 use Rattle.derivation_files.specs.Accepted.{Accepted, Claims}
@@ -56,6 +57,10 @@ JoinRefuses term number place = Refuses (31 ∷ []) (5 ∷ 6 ∷ 7 ∷ []) 0 (le
 abbrev pub RowsRefuse : (bytes : List ℕ) (number place : ℕ) → Type 0
 RowsRefuse bytes number place =
     Refuses (20 ∷ 21 ∷ []) (5 ∷ 6 ∷ 7 ∷ []) 0 (length bytes) number place ⊎ Refuses [] (22 ∷ []) 1 ringing.rowLimit number place
+
+-- those of a sweep, at place 0
+abbrev pub SweepRefuses : (number place : ℕ) → Type 0
+SweepRefuses number place = Refuses (32 ∷ 4 ∷ 1 ∷ 3 ∷ []) [] 0 0 number place
 
 -- those of checking: 10 to 13 at line 0, and 14 to 18 at a line of the file
 abbrev pub CheckRefuses : (file : List ℕ) (number line : ℕ) → Type 0
@@ -134,6 +139,7 @@ pub record Demands : Type 0 where
       (bytes : List ℕ) (n : ℕ) (table table′ : List ℕ) (number place : ℕ) →
       ringing.ringingOf bytes n table ≡ ringing.After.after (Reply.refused number place) table′ →
       RowsRefuse bytes number place × (table′ ≡ table)
+  pub sweep-refuses : (n fuel area number place : ℕ) → sweepOf n fuel area ≡ Reply.refused number place → SweepRefuses number place
   pub checking-refuses : (file : List ℕ) (number line : ℕ) → checkingOf file ≡ Reply.refused number line → CheckRefuses file number line
   pub matching-refuses :
       (first second : List ℕ) (number line : ℕ) →
@@ -180,6 +186,8 @@ pub record Demands : Type 0 where
   pub rings :
       (bytes : List ℕ) (n : ℕ) (table table′ : List ℕ) (reply : Reply ringing.Rung) →
       (ringing.ringingOf bytes n table ≡ ringing.After.after reply table′) ↔ RingsAs bytes n table reply table′
+  -- and with sweeps: the run of every small term, and what the runs come to
+  pub sweeps : (n fuel area : ℕ) (reply : Reply Swept) → (sweepOf n fuel area ≡ reply) ↔ SweepsAs n fuel area reply
   -- checking's reply is the one that its relation gives: the first bad line, and in it the first number
   pub checks : (file : List ℕ) (reply : Reply ℕ) → (checkingOf file ≡ reply) ↔ ChecksAs file reply
   pub accepted-exactly : (file : List ℕ) (n : ℕ) → (checkingOf file ≡ Reply.answered n) ↔ Accepted file n

@@ -3,4 +3,5 @@ pub mod Results
 pub mod OtherWays
 pub mod Joined
 pub mod RowsSay
+pub mod SmallTerms
 pub mod Examples

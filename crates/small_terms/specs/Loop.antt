@@ -1,0 +1,53 @@
+-- What the parts of the sweep ask and leave: one letter of a text, one run, and the runs so far (REQUIREMENTS, Small terms).
+use Prim.Native.Nat.{ℕ, suc, _+_, _-_, _*_, _≤_, _<_}
+use mathlib.Core.Path.{_≡_}
+use mathlib.Core.List.{List, [], _∷_, map}
+use lib.ListN.{length, getD, take}
+use Rattle.calculus.specs.Limits.{areaLimit, fuelLimit}
+use Rattle.calculus.specs.Run.{Outcome, run, outcome, count}
+use Rattle.reading.specs.Arity.{arityOf}
+use Rattle.small_terms.specs.Texts.{texts, ways, termIn, smallTerms}
+use Rattle.small_terms.specs.Sweep.{largestSize, Swept, sweptOf}
+
+-- `Chosen owing n i b j`: text i of those of so many terms with n letters and one more begins with b, and goes on as text j of those that
+-- can follow b
+pub record Chosen (owing n i b j : ℕ) : Type 0 where
+  pub says : getD (texts owing (suc n)) i [] ≡ b ∷ getD (texts (owing - 1 + arityOf b) n) j []
+  pub within : j < ways (owing - 1 + arityOf b) n
+
+-- the numbers of a call that is not refused
+pub record Sweepable (n fuel area : ℕ) : Type 0 where
+  pub small : n ≤ largestSize
+  pub fuelled : fuel ≤ fuelLimit
+  pub short : area ≤ areaLimit
+  pub room : n ≤ area
+
+-- areas for such a call
+pub record Ready (n fuel : ℕ) (area work : List ℕ) : Type 0 where
+  pub asked : Sweepable n fuel (length area)
+  pub level : length work ≡ length area
+
+-- `Ran n i fuel area o k`: the run of small term i, from 0, ends so and makes that many steps
+pub record Ran (n i fuel area : ℕ) (o : Outcome) (k : ℕ) : Type 0 where
+  pub ends : o ≡ outcome (run fuel area (termIn (getD (texts 1 n) i [])))
+  pub counts : k ≡ count (run fuel area (termIn (getD (texts 1 n) i [])))
+  pub bounded : k ≤ fuelLimit
+
+-- what runs come to with one more
+abbrev pub withRun : Outcome → ℕ → Swept → Swept
+withRun Outcome.finished k (Swept.swept f s n steps) = Swept.swept (f + 1) s n (steps + k)
+withRun Outcome.spent k (Swept.swept f s n steps) = Swept.swept f (s + 1) n steps
+withRun Outcome.no-room k (Swept.swept f s n steps) = Swept.swept f s (n + 1) steps
+
+-- no size has more small terms
+abbrev pub mostTerms : ℕ
+mostTerms = 9202
+
+-- no number is larger than so many runs can make it
+abbrev pub Few : ℕ → Swept → Type 0
+Few i (Swept.swept f s n steps) = (f ≤ i) × (s ≤ i) × (n ≤ i) × (steps ≤ fuelLimit * i)
+
+-- `Summed n fuel area i w`: the runs of the first i small terms come to w
+pub record Summed (n fuel area i : ℕ) (w : Swept) : Type 0 where
+  pub sums : w ≡ sweptOf (map (run fuel area) (take i (smallTerms n)))
+  pub few : Few i w
