@@ -35,6 +35,7 @@ pub mod small_tests;
 pub mod step_tests;
 pub mod subject;
 pub mod suite;
+pub mod sweep_tests;
 pub mod table;
 pub mod terms;
 pub mod threads;

@@ -1,4 +1,4 @@
-//! The three programs, each input given to a process of its own.
+//! The four programs, each input given to a process of its own.
 
 use crate::check_tests::{within_limits, LAYOUTS};
 use crate::damage::damaged;
@@ -7,6 +7,7 @@ use crate::random::Random;
 use crate::subject::{Programs, Second};
 use crate::suite::{equal, equal_bytes, shown, Outcome, Suite};
 use crate::table::programs::{check_rows, finish_rows, mix_rows, Row};
+use crate::table::sweeping::sweep_rows;
 use crate::terms::random_of_size;
 use second::plain::Plain;
 use std::io::{Read, Write};
@@ -64,14 +65,18 @@ impl Programs for &Processes {
     fn check_file(&self, input: &[u8]) -> Result<Vec<u8>, String> {
         self.run("check_file", input, usize::MAX, Duration::ZERO)
     }
+
+    fn sweep(&self, input: &[u8]) -> Result<Vec<u8>, String> {
+        self.run("sweep", input, usize::MAX, Duration::ZERO)
+    }
 }
 
 /// Demands that exactly this was printed.
-fn printed(got: Result<Vec<u8>, String>, wanted: &[u8], input: &[u8]) -> Outcome {
+pub fn printed(got: Result<Vec<u8>, String>, wanted: &[u8], input: &[u8]) -> Outcome {
     equal_bytes("printed", &got?, wanted).map_err(|what| format!("{what}; on {}", shown(input)))
 }
 
-fn with_line_feed(line: &[u8]) -> Vec<u8> {
+pub fn with_line_feed(line: &[u8]) -> Vec<u8> {
     [line, b"\n"].concat()
 }
 
@@ -201,6 +206,7 @@ fn complains(program: &Path, redirection: &str, input: &[u8], complaint: &str) -
 pub fn failing(suite: &mut Suite, label: &str, program: &str, processes: &Processes) {
     let inputs: [&[u8]; 2] = match program {
         "finish" | "rule_mix" => [b"6\t12\t.BII.JRJ\n", b"x"],
+        "sweep" => [b"3\t10\t20\n", b"x"],
         _ => [b"1\tI\t1\tI\t-\t-\n", b"x"],
     };
     let streams = [
@@ -222,6 +228,7 @@ fn rows_of(program: &str) -> Vec<Row> {
     match program {
         "finish" => finish_rows(),
         "rule_mix" => mix_rows(),
+        "sweep" => sweep_rows(),
         _ => check_rows(),
     }
 }

@@ -6,13 +6,14 @@ use crate::lent::{predict_counted, predict_plain};
 use crate::random::Random;
 use crate::subject::Second;
 use crate::suite::{equal, equal_bytes, shown, Outcome, Suite};
-use crate::terms::{all_of_size, random_of_size, ALL_BELLS, BELLS, NO_BELLS, TWO_BELLS};
+use crate::table::sweeping::TERMS;
+use crate::terms::{all_of_size, random_of_size, texts_of_size, ALL_BELLS, BELLS, NO_BELLS, TWO_BELLS};
 use crate::wrong_batch::Slip;
 use crate::wrong_batches::Batches;
 use crate::{
     check_tests, compare_tests, count_tests, deep, end_tests, finish_tests, huge, join_laws, join_tests,
     machine_rules, machine_tests, match_tests, program_tests, read_tests, result_tests, row_laws, row_tests,
-    small_tests, step_tests,
+    small_tests, step_tests, sweep_tests,
 };
 use second::anywhere::{nearest_normal, successors, Nearest};
 use second::checking::check;
@@ -21,6 +22,7 @@ use second::machine::Machine;
 use second::order::{next_place, part_at};
 use second::plain::{rewrite_at, Plain};
 use second::rules::growth;
+use second::small_terms;
 use second::stepping::{Next, Reducer};
 use second::term::{parse, Term};
 
@@ -38,6 +40,24 @@ fn numbers_of_terms() -> Outcome {
             texts.dedup();
             equal(&format!("terms of size {size} over {ends}"), texts.len(), number)?;
         }
+    }
+    Ok(())
+}
+
+/// The terms of size 3 without bells, in byte order.
+const OF_SIZE_3: &str = ".II .IJ .JI .JJ AII AIJ AJI AJJ BII BIJ BJI BJJ HII HIJ HJI HJJ RRI RRJ";
+
+/// The terms that sweep runs come in byte order, as many as there are, and are those that letters before texts make.
+fn small_terms_in_order() -> Outcome {
+    let of_size_3: Vec<Vec<u8>> = OF_SIZE_3.split(' ').map(|text| text.as_bytes().to_vec()).collect();
+    equal("of size 3", small_terms::texts_of_size(3), of_size_3)?;
+    for (size, number) in (1..).zip(TERMS) {
+        let texts = small_terms::texts_of_size(size);
+        equal(&format!("terms of size {size}"), texts.len() as u64, number)?;
+        equal(&format!("size {size} is in byte order"), texts.windows(2).all(|two| two[0] < two[1]), true)?;
+        let mut others = texts_of_size(size, NO_BELLS);
+        others.sort();
+        equal(&format!("size {size} made of letters before texts"), texts == others, true)?;
     }
     Ok(())
 }
@@ -197,6 +217,8 @@ fn known(suite: &mut Suite) {
     program_tests::known_finishing(suite, "second", plain);
     program_tests::known_mixing(suite, "second", plain);
     program_tests::known_checking(suite, "second", plain);
+    sweep_tests::known(suite, "plain", plain);
+    sweep_tests::known(suite, "fast", fast);
     huge::all(suite, "second", plain);
 }
 
@@ -216,6 +238,8 @@ fn made(suite: &mut Suite) {
     finish_tests::made(suite, "fast", fast);
     result_tests::made(suite, "plain", plain);
     result_tests::made(suite, "fast", fast);
+    sweep_tests::made(suite, "plain", plain, TERMS.len());
+    sweep_tests::made(suite, "fast", fast, TERMS.len());
 }
 
 /// The fast reducer against the plain one.
@@ -234,6 +258,7 @@ fn two_reducers(suite: &mut Suite) {
     compare_tests::predicted(suite, "fast", fast);
     program_tests::predicted_finishing(suite, "fast", fast);
     program_tests::predicted_mixing(suite, "fast", fast);
+    sweep_tests::predicted(suite, "fast", fast);
 }
 
 /// The engine of the tests' own that steps in batches: without a slip it replies as the fast reducer does.
@@ -256,6 +281,7 @@ pub fn all(suite: &mut Suite) {
     two_reducers(suite);
     batches(suite);
     suite.test("self: the numbers of terms of each size", numbers_of_terms);
+    suite.test("self: the small terms without bells, in byte order", small_terms_in_order);
     suite.test("self: the runs of the terms of size 3", runs_of_size_3);
     suite.test("self: every step of every term of up to 7 letters", every_small_step);
     suite.test("self: terms joined by changes have one result", joined_terms);

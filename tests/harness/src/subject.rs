@@ -9,6 +9,7 @@ use second::finishing;
 use second::joining;
 use second::rows;
 use second::stepping::{self, Reducer};
+use second::sweeping;
 use std::marker::PhantomData;
 
 /// The nine functions of `include/controller.h`.
@@ -24,11 +25,12 @@ pub trait Controller {
     fn match_claims(&self, first: &[u8], second: &[u8]) -> u64;
 }
 
-/// The three programs: what each prints for its input.
+/// The four programs: what each prints for its input.
 pub trait Programs {
     fn finish(&self, input: &[u8]) -> Result<Vec<u8>, String>;
     fn rule_mix(&self, input: &[u8]) -> Result<Vec<u8>, String>;
     fn check_file(&self, input: &[u8]) -> Result<Vec<u8>, String>;
+    fn sweep(&self, input: &[u8]) -> Result<Vec<u8>, String>;
 }
 
 /// The second implementation, with one of its two reducers.
@@ -106,5 +108,9 @@ impl<R: Reducer> Programs for Second<R> {
 
     fn check_file(&self, input: &[u8]) -> Result<Vec<u8>, String> {
         Ok(finish_line::check_program(input))
+    }
+
+    fn sweep(&self, input: &[u8]) -> Result<Vec<u8>, String> {
+        Ok(sweeping::sweep_program::<R>(input))
     }
 }

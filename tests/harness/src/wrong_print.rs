@@ -120,4 +120,8 @@ impl<P: Programs> Programs for Wrong<P> {
     fn check_file(&self, input: &[u8]) -> Result<Vec<u8>, String> {
         self.programs.check_file(input)
     }
+
+    fn sweep(&self, input: &[u8]) -> Result<Vec<u8>, String> {
+        self.programs.sweep(input)
+    }
 }

@@ -1,4 +1,4 @@
-//! The three programs: what each prints for its input.
+//! Three of the four programs: what each prints for its input; what sweep prints has a file of its own.
 
 use crate::checking;
 use crate::counting::{finish_by_rule, Counts};
@@ -7,7 +7,7 @@ use crate::refusal::*;
 use crate::stepping::{Reducer, MAX_AREA};
 
 /// A decimal number without leading zeros; one too large for its type is the largest of it.
-fn number(field: &[u8]) -> Option<u64> {
+pub fn number(field: &[u8]) -> Option<u64> {
     let leading_zero = field.len() > 1 && field[0] == b'0';
     if field.is_empty() || leading_zero || !field.iter().all(u8::is_ascii_digit) {
         return None;
@@ -28,7 +28,8 @@ fn line(input: &[u8]) -> Option<(u64, usize, &[u8])> {
     (1..=MAX_AREA).contains(&area).then_some((number(fuel)?, area, term))
 }
 
-fn refused(refusal: Refusal) -> Vec<u8> {
+/// The line that says what was refused.
+pub fn refused(refusal: Refusal) -> Vec<u8> {
     format!("refused\t{}\t{}\n", refusal.number, refusal.place).into_bytes()
 }
 

@@ -19,7 +19,9 @@ pub mod reading;
 pub mod refusal;
 pub mod rows;
 pub mod rules;
+pub mod small_terms;
 pub mod stepping;
+pub mod sweeping;
 pub mod term;
 pub mod types;
 

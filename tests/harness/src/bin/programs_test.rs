@@ -1,4 +1,4 @@
-//! Runs the three programs of the engine on every program row.
+//! Runs the four programs of the engine on every program row.
 //!
 //!   programs_test FOLDER              every test; FOLDER holds the programs
 //!   programs_test FOLDER --bugs       the names of the bugs that can be planted in what rule_mix prints
@@ -6,17 +6,24 @@
 
 use harness::program_tests::*;
 use harness::suite::Suite;
+use harness::sweep_tests;
 use harness::wrong_print::{bugs, Wrong};
+
+/// Terms of up to so many letters are run one by one beside sweep.
+const ONE_BY_ONE: usize = 5;
 
 fn tests(processes: &Processes) -> i32 {
     let mut suite = Suite::new();
     known_finishing(&mut suite, "engine", processes);
     known_mixing(&mut suite, "engine", processes);
     known_checking(&mut suite, "engine", processes);
+    sweep_tests::known(&mut suite, "engine", processes);
+    sweep_tests::made(&mut suite, "engine", processes, ONE_BY_ONE);
     predicted_finishing(&mut suite, "engine", processes);
     predicted_mixing(&mut suite, "engine", processes);
     predicted_checking(&mut suite, "engine", processes);
-    for program in ["finish", "rule_mix", "check_file"] {
+    sweep_tests::predicted(&mut suite, "engine", processes);
+    for program in ["finish", "rule_mix", "check_file", "sweep"] {
         slowly(&mut suite, "engine", program, processes);
         failing(&mut suite, "engine", program, processes);
     }

@@ -10,3 +10,4 @@ pub mod programs;
 pub mod reading;
 pub mod rows;
 pub mod stepping;
+pub mod sweeping;

@@ -1,4 +1,4 @@
-//! The three programs: standard input, and the one line printed or, by rule_mix, the fourteen.
+//! Three of the four programs: standard input, and the one line printed or, by rule_mix, the fourteen.
 
 use super::checking::{file, I, J, K};
 use super::counting::all_different;
@@ -11,12 +11,12 @@ pub struct Row {
     pub printed: Vec<u8>,
 }
 
-fn row(input: &str, printed: &str) -> Row {
+pub(super) fn row(input: &str, printed: &str) -> Row {
     let name = format!("{} prints {}", input.escape_debug(), printed.escape_debug());
     Row { name, input: input.as_bytes().to_vec(), printed: printed.into() }
 }
 
-fn named(name: &str, input: Vec<u8>, printed: &str) -> Row {
+pub(super) fn named(name: &str, input: Vec<u8>, printed: &str) -> Row {
     Row { name: name.to_string(), input, printed: printed.into() }
 }
 
