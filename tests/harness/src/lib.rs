@@ -46,4 +46,5 @@ pub mod wrong_ends;
 pub mod wrong_joins;
 pub mod wrong_print;
 pub mod wrong_rows;
+pub mod wrong_sweep;
 pub mod wrong_tables;

@@ -1,13 +1,12 @@
 //! Runs the four programs of the engine on every program row.
 //!
 //!   programs_test FOLDER              every test; FOLDER holds the programs
-//!   programs_test FOLDER --bugs       the names of the bugs that can be planted in what rule_mix prints
-//!   programs_test FOLDER --bug NAME   the tests of rule_mix with that bug
+//!   programs_test FOLDER --bugs       the names of the bugs that can be planted in what rule_mix prints, and in sweep
+//!   programs_test FOLDER --bug NAME   the tests of that program with that bug
 
 use harness::program_tests::*;
 use harness::suite::Suite;
-use harness::sweep_tests;
-use harness::wrong_print::{bugs, Wrong};
+use harness::{sweep_tests, wrong_print, wrong_sweep};
 
 /// Terms of up to so many letters are run one by one beside sweep.
 const ONE_BY_ONE: usize = 5;
@@ -30,11 +29,17 @@ fn tests(processes: &Processes) -> i32 {
     suite.end()
 }
 
-fn tests_with_bug(processes: &Processes, name: &str) -> i32 {
-    let bug = bugs().iter().find(|bug| bug.name == name).expect("a bug of that name");
+/// The tests of rule_mix with this bug, or those of sweep.
+fn tests_with_bug(programs: &Processes, name: &str) -> i32 {
     let mut suite = Suite::new();
-    known_mixing(&mut suite, "engine", Wrong { programs: processes, bug });
-    predicted_mixing(&mut suite, "engine", Wrong { programs: processes, bug });
+    if let Some(bug) = wrong_print::bugs().iter().find(|bug| bug.name == name) {
+        known_mixing(&mut suite, "engine", wrong_print::Wrong { programs, bug });
+        predicted_mixing(&mut suite, "engine", wrong_print::Wrong { programs, bug });
+    } else {
+        let bug = wrong_sweep::bugs().find(|bug| bug.name == name).expect("a bug of that name");
+        sweep_tests::known(&mut suite, "engine", wrong_sweep::Wrong { programs, bug });
+        sweep_tests::predicted(&mut suite, "engine", wrong_sweep::Wrong { programs, bug });
+    }
     suite.end()
 }
 
@@ -43,7 +48,8 @@ fn asked() -> i32 {
     match words.iter().map(String::as_str).collect::<Vec<_>>()[..] {
         [folder] => tests(&Processes { folder: folder.into() }),
         [_, "--bugs"] => {
-            bugs().iter().for_each(|bug| println!("{}", bug.name));
+            wrong_print::bugs().iter().for_each(|bug| println!("{}", bug.name));
+            wrong_sweep::bugs().for_each(|bug| println!("{}", bug.name));
             0
         }
         [folder, "--bug", name] => tests_with_bug(&Processes { folder: folder.into() }, name),
