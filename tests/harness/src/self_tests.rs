@@ -217,8 +217,6 @@ fn known(suite: &mut Suite) {
     program_tests::known_finishing(suite, "second", plain);
     program_tests::known_mixing(suite, "second", plain);
     program_tests::known_checking(suite, "second", plain);
-    sweep_tests::known(suite, "plain", plain);
-    sweep_tests::known(suite, "fast", fast);
     huge::all(suite, "second", plain);
 }
 
@@ -238,8 +236,6 @@ fn made(suite: &mut Suite) {
     finish_tests::made(suite, "fast", fast);
     result_tests::made(suite, "plain", plain);
     result_tests::made(suite, "fast", fast);
-    sweep_tests::made(suite, "plain", plain, TERMS.len());
-    sweep_tests::made(suite, "fast", fast, TERMS.len());
 }
 
 /// The fast reducer against the plain one.
@@ -258,7 +254,6 @@ fn two_reducers(suite: &mut Suite) {
     compare_tests::predicted(suite, "fast", fast);
     program_tests::predicted_finishing(suite, "fast", fast);
     program_tests::predicted_mixing(suite, "fast", fast);
-    sweep_tests::predicted(suite, "fast", fast);
 }
 
 /// The engine of the tests' own that steps in batches: without a slip it replies as the fast reducer does.
@@ -274,6 +269,17 @@ fn other_orders(suite: &mut Suite) {
     suite.test("self: .B.AIHJJAIHJJI.II has no result at the leftmost full stop", leftmost_never_ends);
 }
 
+/// Sweeps come last: bugs in anything else are seen before them, and those in sweeps by these alone.
+fn sweeps(suite: &mut Suite) {
+    let (plain, fast) = (Second::<Plain>::new(), Second::<Machine>::new());
+    suite.test("self: the small terms that sweep runs, in byte order", small_terms_in_order);
+    sweep_tests::known(suite, "plain", plain);
+    sweep_tests::known(suite, "fast", fast);
+    sweep_tests::made(suite, "plain", plain, TERMS.len());
+    sweep_tests::made(suite, "fast", fast, TERMS.len());
+    sweep_tests::predicted(suite, "fast", fast);
+}
+
 pub fn all(suite: &mut Suite) {
     known(suite);
     other_orders(suite);
@@ -281,10 +287,10 @@ pub fn all(suite: &mut Suite) {
     two_reducers(suite);
     batches(suite);
     suite.test("self: the numbers of terms of each size", numbers_of_terms);
-    suite.test("self: the small terms without bells, in byte order", small_terms_in_order);
     suite.test("self: the runs of the terms of size 3", runs_of_size_3);
     suite.test("self: every step of every term of up to 7 letters", every_small_step);
     suite.test("self: terms joined by changes have one result", joined_terms);
     suite.test("self: typed terms keep their type", types_are_kept);
     suite.test("self: generated derivations use every rule and every bell", rules_of_derivations);
+    sweeps(suite);
 }

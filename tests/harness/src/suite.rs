@@ -10,15 +10,20 @@ pub type Outcome = Result<(), String>;
 pub struct Suite {
     passed: usize,
     failed: usize,
+    named: Option<String>,
 }
 
 impl Suite {
+    /// With the variable TESTS_NAMED set, only tests are run that have that word in their names.
     pub fn new() -> Self {
-        Suite::default()
+        Suite { named: std::env::var("TESTS_NAMED").ok(), ..Suite::default() }
     }
 
     /// Runs one named test; a panic is a failure of that test.
     pub fn test(&mut self, name: &str, body: impl FnOnce() -> Outcome) {
+        if self.named.as_ref().is_some_and(|word| !name.contains(word)) {
+            return;
+        }
         let start = Instant::now();
         let outcome = catch_unwind(AssertUnwindSafe(body)).unwrap_or_else(|panic| Err(words_of(&*panic)));
         if start.elapsed() > Duration::from_secs(1) {
