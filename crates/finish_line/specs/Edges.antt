@@ -1,5 +1,5 @@
--- Inputs at the edges of the finishing program's line, as rows of a table (REQUIREMENTS, Programs). `proofs/Edges.antt` has the proof that
--- covers it.
+-- Inputs at the edges of what the finishing program's line asks for, as rows of a table (REQUIREMENTS, Programs); every edge of the shape
+-- alone is a row of `line_states`. `proofs/Edges.antt` has the proof that covers it.
 use Prim.Native.Nat.{ℕ}
 use Prim.Native.String.{String}
 use mathlib.Core.List.{List, [], _∷_}
@@ -27,26 +27,12 @@ rows =
     asks "6\t5\t\0\n" 6 5 "\0" ∷
     asks "10\t10\t10 \n" 10 10 "10 " ∷
     other "" ∷
-    other "\n" ∷
-    other "6\n" ∷
-    other "6\t12\n" ∷
     other "6\t12\tJ" ∷
-    other "6\t12\tJ\nJ" ∷
     other "6\t12\tJ\n\n" ∷
-    other "6\t12\tJ\n\t" ∷
-    other "\n6\t12\tJ\n" ∷
     other "6\t12\tJ\tJ\n" ∷
-    other "6\t12\tJ\t\n" ∷
-    other "\t12\tJ\n" ∷
     other "06\t12\tJ\n" ∷
-    other "00\t12\tJ\n" ∷
-    other "+6\t12\tJ\n" ∷
-    other "6 \t12\tJ\n" ∷
-    other " 6\t12\tJ\n" ∷
-    other "6\t\tJ\n" ∷
     other "6\t0\tJ\n" ∷
     other "6\t012\tJ\n" ∷
     other "6\t16385\tJ\n" ∷
     other "6\t1111111111222222222233333333334444444444\tJ\n" ∷
-    other "6\t-12\tJ\n" ∷
     []
