@@ -34,6 +34,7 @@ use Rattle.joining.proofs.Calls.{joins-exactly}
 use Rattle.rows.specs.Ringing as ringing
 use Rattle.rows.specs.RingsAs.{RingsAs}
 use Rattle.rows.proofs.Exactly.{rings-exactly}
+use Rattle.small_admission.specs.Admission.{Refused}
 use Rattle.small_terms.specs.Sweep.{SweepsAs}
 use Rattle.small_terms.proofs.Sweeps.{sweeps-exactly}
 use Rattle.derivation_files.specs.Checks.{ChecksAs}
@@ -44,7 +45,7 @@ use Rattle.derivation_files.proofs.LaidOut.{laid-out}
 use Rattle.matching.proofs.Claims.{match-exactly}
 use Rattle.matching.proofs.Calls.{match-refused}
 use Rattle.codes.proofs.InC.{in-c}
-use Rattle.promises.specs.Demands.{StepRefuses, FinishRefuses, JoinRefuses, RowsRefuse, SweepRefuses, SteppedTo, RanTo, ComparedTo, Demands}
+use Rattle.promises.specs.Demands.{StepRefuses, FinishRefuses, JoinRefuses, RowsRefuse, SmallTermsRefuse, SteppedTo, RanTo, ComparedTo, Demands}
 
 step-refused :
     {area work area′ work′ : List ℕ} {len number place : ℕ} →
@@ -169,12 +170,15 @@ rows-refused (RingsAs.bad-row good bad others w limited room all-good is-bad) =
     let before = length-append good (bad ∷ others) in
     (inr (Refuses.at-place (List·Memᴰ·head refl) (omega arith) (omega arith)), refl)
 
-sweep-refused : {n fuel area number place : ℕ} → SweepsAs n fuel area (Reply.refused number place) → SweepRefuses number place
-sweep-refused (SweepsAs.not-swept h) = Refuses.at-zero (List·Memᴰ·head refl) refl
-sweep-refused (SweepsAs.fuel-too-high s h) = Refuses.at-zero (List·Memᴰ·tail (List·Memᴰ·head refl)) refl
-sweep-refused (SweepsAs.area-too-long s f h) = Refuses.at-zero (List·Memᴰ·tail (List·Memᴰ·tail (List·Memᴰ·head refl))) refl
-sweep-refused (SweepsAs.area-too-short s f a h) =
+small-refused : {n fuel area number : ℕ} → Refused n fuel area number → SmallTermsRefuse number 0
+small-refused (Refused.not-small h) = Refuses.at-zero (List·Memᴰ·head refl) refl
+small-refused (Refused.fuel-too-high s h) = Refuses.at-zero (List·Memᴰ·tail (List·Memᴰ·head refl)) refl
+small-refused (Refused.area-too-long s f h) = Refuses.at-zero (List·Memᴰ·tail (List·Memᴰ·tail (List·Memᴰ·head refl))) refl
+small-refused (Refused.area-too-short s f a h) =
     Refuses.at-zero (List·Memᴰ·tail (List·Memᴰ·tail (List·Memᴰ·tail (List·Memᴰ·head refl)))) refl
+
+sweep-refused : {n fuel area number place : ℕ} → SweepsAs n fuel area (Reply.refused number place) → SmallTermsRefuse number place
+sweep-refused (SweepsAs.refuses r) = small-refused r
 
 -- the area of a run that is not refused holds the text of the term reached at its start
 reached-text :

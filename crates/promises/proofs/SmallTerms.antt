@@ -7,11 +7,11 @@ use Rattle.calculus.specs.Term.{Term, text}
 use Rattle.calculus.specs.Run.{outcome}
 use Rattle.calculus.proofs.Runs.{runs-run}
 use Rattle.repeats.specs.Repeats.{NoRepeats}
-use Rattle.small_terms.specs.Small.{Increasing}
-use Rattle.small_terms.specs.Texts.{smallTerms, ways}
-use Rattle.small_terms.proofs.Ordered.{before-irreflexive}
-use Rattle.small_terms.proofs.Each.{each-small, each-unique}
-use Rattle.small_terms.proofs.Summing.{length-small}
+use Rattle.small_texts.specs.Small.{Increasing}
+use Rattle.small_texts.specs.Texts.{smallTerms, ways}
+use Rattle.small_texts.proofs.Ordered.{before-irreflexive}
+use Rattle.small_texts.proofs.Each.{each-small, each-unique}
+use Rattle.small_texts.proofs.Indexed.{length-small}
 use Rattle.small_terms.proofs.Sweeps.{never-none, all-counted, steps-few, each-finishes}
 use Rattle.promises.specs.SmallTerms.{SmallTermsSay}
 

@@ -58,9 +58,9 @@ abbrev pub RowsRefuse : (bytes : List ℕ) (number place : ℕ) → Type 0
 RowsRefuse bytes number place =
     Refuses (20 ∷ 21 ∷ []) (5 ∷ 6 ∷ 7 ∷ []) 0 (length bytes) number place ⊎ Refuses [] (22 ∷ []) 1 ringing.rowLimit number place
 
--- those of a sweep, at place 0
-abbrev pub SweepRefuses : (number place : ℕ) → Type 0
-SweepRefuses number place = Refuses (32 ∷ 4 ∷ 1 ∷ 3 ∷ []) [] 0 0 number place
+-- those of a call for small terms, at place 0
+abbrev pub SmallTermsRefuse : (number place : ℕ) → Type 0
+SmallTermsRefuse number place = Refuses (32 ∷ 4 ∷ 1 ∷ 3 ∷ []) [] 0 0 number place
 
 -- those of checking: 10 to 13 at line 0, and 14 to 18 at a line of the file
 abbrev pub CheckRefuses : (file : List ℕ) (number line : ℕ) → Type 0
@@ -139,7 +139,7 @@ pub record Demands : Type 0 where
       (bytes : List ℕ) (n : ℕ) (table table′ : List ℕ) (number place : ℕ) →
       ringing.ringingOf bytes n table ≡ ringing.After.after (Reply.refused number place) table′ →
       RowsRefuse bytes number place × (table′ ≡ table)
-  pub sweep-refuses : (n fuel area number place : ℕ) → sweepOf n fuel area ≡ Reply.refused number place → SweepRefuses number place
+  pub sweep-refuses : (n fuel area number place : ℕ) → sweepOf n fuel area ≡ Reply.refused number place → SmallTermsRefuse number place
   pub checking-refuses : (file : List ℕ) (number line : ℕ) → checkingOf file ≡ Reply.refused number line → CheckRefuses file number line
   pub matching-refuses :
       (first second : List ℕ) (number line : ℕ) →

@@ -8,8 +8,8 @@ use Rattle.calculus.specs.Term.{Term}
 use Rattle.calculus.specs.Run.{Outcome, Run, Runs, outcome}
 use Rattle.reading.specs.Reply.{Reply}
 use Rattle.repeats.specs.Repeats.{NoRepeats}
-use Rattle.small_terms.specs.Small.{Small, EachSmall}
-use Rattle.small_terms.specs.Texts.{smallTerms}
+use Rattle.small_texts.specs.Small.{Small, EachSmall}
+use Rattle.small_texts.specs.Texts.{smallTerms}
 use Rattle.small_terms.specs.Sweep.{Swept, sweepOf}
 
 -- `Answers n fuel area f s r k`: the sweep is not refused, and those are its four numbers

@@ -6,10 +6,11 @@ use mathlib.Core.List.{List, [], _∷_, map}
 use lib.ListN.{length}
 use Rattle.calculus.specs.Letter.{letterOf}
 use Rattle.calculus.specs.Parse.{termOf}
-use Rattle.small_terms.specs.Texts.{smallTerms, ways}
+use Rattle.small_texts.specs.Texts.{smallTerms, ways}
+use Rattle.small_admission.specs.Admission.{admitted}
 use Rattle.small_terms.specs.Sweep.{sweepOf}
 use Rattle.small_terms.specs.Examples.{Many, counts, Call, calls}
-use Rattle.small_terms.proofs.Summing.{length-small}
+use Rattle.small_texts.proofs.Indexed.{length-small}
 
 counted : (ms : List Many) → map (λ (m : Many). length (smallTerms (m .letters))) ms ≡ map (λ (m : Many). ways 1 (m .letters)) ms
 counted [] = refl
@@ -21,5 +22,5 @@ counts-hold = counted counts
 
 -- each call is answered as the table says
 pub calls-hold : map (λ (c : Call). sweepOf (c .n) (c .fuel) (c .area)) calls ≡ map (λ (c : Call). c .answer) calls
-unfolding sweepOf smallTerms termOf letterOf
+unfolding sweepOf admitted smallTerms termOf letterOf
 calls-hold = refl

@@ -1,41 +1,24 @@
 -- Some run always finishes, so the finished ones can be divided by; and the three counts make up all small terms. Carried by a normal small
 -- term, which every size has. Assumes nothing.
-use Prim.Native.Nat.{ℕ, zero, suc, _+_, _*_, _≤_}
+use Prim.Native.Nat.{ℕ, suc, _+_, _*_, _≤_}
 use native.Mathlib.Omega.{arith}
 use mathlib.Core.Path.{_≡_, refl, sym, _∙_, ap, subst}
 use mathlib.Core.Bool.{Bool, true, false, cond, false≢true}
 use mathlib.Core.List.{List, [], _∷_, map, Memᴰ·map}
 use mathlib.Core.List.{List·Memᴰ, List·Memᴰ·head, List·Memᴰ·tail}
 use lib.ListN.{length, length-map}
-use Rattle.calculus.specs.Term.{Term, size, Normal}
-use Rattle.calculus.specs.BellFree.{BellFree}
+use Rattle.calculus.specs.Term.{Term}
 use Rattle.calculus.specs.Run.{Outcome, Run, run, outcome, count}
 use Rattle.calculus.proofs.Order.{normal-stop}
 use Rattle.calculus.proofs.Runs.{run-stop, count-fuel}
-use Rattle.small_terms.specs.Small.{Small}
-use Rattle.small_terms.specs.Texts.{smallTerms}
+use Rattle.small_texts.specs.Small.{Small}
+use Rattle.small_texts.specs.Texts.{smallTerms}
 use Rattle.small_terms.specs.Sweep.{isOutcome, ending, stepsOf}
-use Rattle.small_terms.proofs.Each.{each-small}
+use Rattle.small_texts.proofs.Each.{each-small}
+use Rattle.small_texts.proofs.Normal.{some-normal}
 use Rattle.small_terms.proofs.Summing.{heldBy}
 
 -- ---- some run finishes
-
--- `J` behind so many `R`
-abbrev raised : ℕ → Term
-raised zero = Term.J
-raised (suc k) = Term.R (raised k)
-
-raised-size : (k : ℕ) → size (raised k) ≡ suc k
-raised-size zero = refl
-raised-size (suc k) = ap suc (raised-size k)
-
-raised-free : (k : ℕ) → BellFree (raised k)
-raised-free zero = BellFree.free-J
-raised-free (suc k) = BellFree.free-R (raised-free k)
-
-raised-normal : (k : ℕ) → Normal (raised k)
-raised-normal zero = Normal.normal-J
-raised-normal (suc k) = Normal.normal-R (raised-normal k)
 
 -- a finished run is counted
 counted : (r : Run) (rs : List Run) → outcome r ≡ Outcome.finished → List·Memᴰ r rs → 1 ≤ length (ending Outcome.finished rs)
@@ -51,14 +34,16 @@ counted r (x ∷ rs) done (List·Memᴰ·tail m) = go (isOutcome Outcome.finishe
     go false h = h
 
 -- of every size, with any fuel and in any area, some run finishes
+pub some-finishes : (n fuel area : ℕ) → 1 ≤ n → (t : Term) × Small n t × (outcome (run fuel area t) ≡ Outcome.finished)
+some-finishes n fuel area h =
+    let (t, small, normal) = some-normal n h in
+    (t, small, ap outcome (run-stop fuel area t (normal-stop normal)))
+
+-- so the finished runs are not none
 pub some-finished : (n fuel area : ℕ) → 1 ≤ n → 1 ≤ length (ending Outcome.finished (map (run fuel area) (smallTerms n)))
-some-finished zero fuel area h = absurd (omega arith)
-some-finished (suc k) fuel area h =
-    let t : Term = raised k in
-    let small : Small (suc k) t = record { sized = raised-size k; free = raised-free k } in
-    counted (run fuel area t) (map (run fuel area) (smallTerms (suc k)))
-    (ap outcome (run-stop fuel area t (normal-stop (raised-normal k))))
-    (Memᴰ·map (run fuel area) (each-small (suc k) .complete t small))
+some-finished n fuel area h =
+    let (t, small, done) = some-finishes n fuel area h in
+    counted (run fuel area t) (map (run fuel area) (smallTerms n)) done (Memᴰ·map (run fuel area) (each-small n .complete t small))
 
 -- ---- the counts make up all
 

@@ -1,12 +1,5 @@
-pub mod Spelled
-pub mod Ordered
-pub mod Each
-pub mod HowMany
-pub mod Choosing
-pub mod Writing
 pub mod Running
 pub mod Summing
-pub mod Replies
 pub mod Finished
 pub mod Sweeps
 pub mod Examples

@@ -11,10 +11,10 @@ use lib.Seq.{take-suc, take-all}
 use Rattle.calculus.specs.Limits.{fuelLimit}
 use Rattle.calculus.specs.Term.{Term}
 use Rattle.calculus.specs.Run.{Outcome, Run, run, outcome, count}
-use Rattle.small_terms.specs.Texts.{texts, ways, termIn, smallTerms}
-use Rattle.small_terms.specs.Sweep.{largestSize, Swept, isOutcome, ending, stepsOf, sweptOf}
+use Rattle.small_texts.specs.Texts.{largestSize, termIn, termAt, smallTerms, ways}
+use Rattle.small_terms.specs.Sweep.{Swept, isOutcome, ending, stepsOf, sweptOf}
 use Rattle.small_terms.specs.Loop.{Ran, withRun, mostTerms, Few, Summed}
-use Rattle.small_terms.proofs.HowMany.{length-texts}
+use Rattle.small_texts.proofs.Indexed.{length-small, small-at}
 
 -- ---- one run more
 
@@ -81,15 +81,6 @@ swept-more rs r = go (outcome r) refl
 
 -- ---- all of them
 
--- how many small terms there are
-pub length-small : (n : ℕ) → length (smallTerms n) ≡ ways 1 n
-unfolding smallTerms
-length-small n = length-map (texts 1 n) termIn ∙ length-texts n 1
-
-small-at : (n i : ℕ) → getD (smallTerms n) i (termIn []) ≡ termIn (getD (texts 1 n) i [])
-unfolding smallTerms
-small-at n i = List·getD-map termIn (texts 1 n) i []
-
 -- no runs come to nothing
 pub summed-none : (n fuel area : ℕ) → Summed n fuel area 0 (Swept.swept 0 0 0 0)
 summed-none n fuel area = record { sums = refl; few = (omega arith, omega arith, omega arith, omega arith) }
@@ -118,7 +109,7 @@ module _ (n fuel area i : ℕ) where
       }
     where
       t : Term
-      t = termIn (getD (texts 1 n) i [])
+      t = termAt n i
 
       one : Run
       one = run fuel area t

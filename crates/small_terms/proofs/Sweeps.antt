@@ -1,26 +1,28 @@
 -- The sweep as a function and as a relation agree: each reply has its condition, and the numbers are those of every small term's run.
 -- Carried by `run` being finishing's loop, and by the one list of small terms. Assumes nothing.
 use Prim.Native.Nat.{ℕ, suc, _+_, _*_, _≤_}
-use native.Mathlib.Decide.{decLe}
 use native.Mathlib.Omega.{arith}
 use mathlib.Core.Path.{_≡_, refl, sym, _∙_, ap, subst}
 use mathlib.Core.Logic.{_↔_}
-use mathlib.Core.Bool.{Bool, true, false, _&&_, false≢true}
 use mathlib.Core.List.{List, [], _∷_, map, List·Memᴰ, Memᴰ·map}
-use lib.Dec.{leb}
+use denote.Enum.Declared.{tagOf}
 use lib.ListN.{length, length-map}
-use borrow.Author.Tests.{le-leb}
-use Rattle.calculus.specs.Limits.{areaLimit, fuelLimit}
 use Rattle.calculus.specs.Term.{Term}
 use Rattle.calculus.specs.Run.{Outcome, Run, Runs, run, outcome, count}
 use Rattle.calculus.proofs.Runs.{run-runs, runs-run}
-use Rattle.reading.specs.Reply.{Reply}
-use Rattle.small_terms.specs.Texts.{smallTerms}
-use Rattle.small_terms.specs.Sweep.{largestSize, Swept, ending, stepsOf, sweptOf, isSmallSize, sweepOf, Sums, SmallSize, SweepsAs}
-use Rattle.small_terms.proofs.Each.{each-small, each-unique}
-use Rattle.small_terms.proofs.Summing.{heldBy}
+use Rattle.reading.specs.Reply.{Reply, passedOn}
+use Rattle.small_texts.specs.Texts.{smallTerms, ways}
+use Rattle.small_texts.proofs.Each.{each-small, each-unique}
+use Rattle.small_admission.specs.Admission.{admitted, ifAdmitted, Admitted}
+use Rattle.small_terms.specs.Sweep.{Swept, ending, stepsOf, sweptOf, sweepOf, Sums, SweepsAs}
+use Rattle.small_admission.specs.Answer.{replyOf}
+use Rattle.small_terms.specs.Loop.{Summed}
+use Rattle.small_admission.specs.declared.Admission.{Admission}
+use Rattle.small_admission.proofs.Admission.{the-type}
+use Rattle.small_admission.proofs.Admitting.{refused-is, admitted-is, Decided, decided}
+use Rattle.small_terms.proofs.Summing.{heldBy, summed-all}
+use Rattle.small_admission.proofs.Replies.{Refusal, said-refused, said-answered}
 use Rattle.small_terms.proofs.Finished.{some-finished, counts-parted, steps-fuel, all-end}
-use Rattle.small_terms.proofs.Replies.{small-size, size-refused, fuel-refused, area-refused, room-refused, all-swept}
 
 -- ---- what runs come to
 
@@ -83,93 +85,74 @@ sums-only {fuel} {area} (Sums.has-no-room {t = t} {ts = ts} {r = r} {f = f} {s =
 
 -- ---- each reply
 
-is-small : (n : ℕ) → SmallSize n → isSmallSize n ≡ true
-is-small n (low, high) = ap (λ (b : Bool). b && leb n largestSize) (le-leb 1 n low) ∙ le-leb n largestSize high
-
-not-small : (n : ℕ) → (SmallSize n → ⊥) → isSmallSize n ≡ false
-not-small n h = go (isSmallSize n) refl
-  where
-    go : (b : Bool) → isSmallSize n ≡ b → b ≡ false
-    go true e = absurd (h (small-size n e))
-    go false e = refl
-
 module _ (n fuel area : ℕ) where
-  abbrev As : Reply Swept → Type 0
-  As reply = SweepsAs n fuel area reply
+  -- what the runs of all small terms come to
+  abbrev whole : Swept
+  whole = sweptOf (map (run fuel area) (smallTerms n))
 
   -- what the relation says is answered
   pub as-answered : {reply : Reply Swept} → SweepsAs n fuel area reply → sweepOf n fuel area ≡ reply
-  as-answered (SweepsAs.not-swept h) = sym (size-refused n fuel area (not-small n h))
-  as-answered (SweepsAs.fuel-too-high s h) = sym (fuel-refused n fuel area (is-small n s) h)
-  as-answered (SweepsAs.area-too-long s f h) = sym (area-refused n fuel area (is-small n s) f h)
-  as-answered (SweepsAs.area-too-short s f a h) = sym (room-refused n fuel area (is-small n s) f a h)
-  as-answered (SweepsAs.sweeps {ts = ts} {w = w} s f a h each sums) =
-      sym (all-swept n fuel area (is-small n s) f a h)
+  unfolding sweepOf
+  as-answered (SweepsAs.refuses r) = ap (λ (u : Reply Unit). ifAdmitted u whole) (refused-is r)
+  as-answered (SweepsAs.sweeps {ts = ts} {w = w} a each sums) =
+      ap (λ (u : Reply Unit). ifAdmitted u whole) (admitted-is a)
       ∙ ap (λ (us : List Term). Reply.answered (sweptOf (map (run fuel area) us))) (each-unique n (smallTerms n) ts (each-small n) each)
       ∙ ap (λ (x : Swept). Reply.answered x) (sym (sums-only sums))
 
   -- what is answered the relation says
   pub answered-as : SweepsAs n fuel area (sweepOf n fuel area)
-  answered-as = sized (isSmallSize n) refl
+  unfolding sweepOf
+  answered-as = go (decided n fuel area)
     where
-      roomy : SmallSize n → isSmallSize n ≡ true → fuel ≤ fuelLimit → area ≤ areaLimit → Dec (n ≤ area) → As (sweepOf n fuel area)
-      roomy s e f a (yes h) =
-          subst As (all-swept n fuel area e f a h) (SweepsAs.sweeps s f a h (each-small n) (sums-of fuel area (smallTerms n)))
-      roomy s e f a (no h) = subst As (room-refused n fuel area e f a (omega arith)) (SweepsAs.area-too-short s f a (omega arith))
-
-      short : SmallSize n → isSmallSize n ≡ true → fuel ≤ fuelLimit → Dec (area ≤ areaLimit) → As (sweepOf n fuel area)
-      short s e f (yes a) = roomy s e f a (decLe n area)
-      short s e f (no h) = subst As (area-refused n fuel area e f (omega arith)) (SweepsAs.area-too-long s f (omega arith))
-
-      fuelled : SmallSize n → isSmallSize n ≡ true → Dec (fuel ≤ fuelLimit) → As (sweepOf n fuel area)
-      fuelled s e (yes f) = short s e f (decLe area areaLimit)
-      fuelled s e (no h) = subst As (fuel-refused n fuel area e (omega arith)) (SweepsAs.fuel-too-high s (omega arith))
-
-      sized : (b : Bool) → isSmallSize n ≡ b → As (sweepOf n fuel area)
-      sized true e = fuelled (small-size n e) e (decLe fuel fuelLimit)
-      sized false e = subst As (size-refused n fuel area e) (SweepsAs.not-swept (λ s. false≢true (sym e ∙ is-small n s)))
+      go : {reply : Reply Unit} → Decided n fuel area reply → SweepsAs n fuel area (ifAdmitted reply whole)
+      go (Decided.refuses r) = SweepsAs.refuses r
+      go (Decided.admits a) = SweepsAs.sweeps a (each-small n) (sums-of fuel area (smallTerms n))
 
   -- so a reply is the answer exactly where the relation says it
   pub sweeps-exactly : (reply : Reply Swept) → (sweepOf n fuel area ≡ reply) ↔ SweepsAs n fuel area reply
-  sweeps-exactly reply = (λ e. subst As e answered-as, as-answered)
+  sweeps-exactly reply = (λ e. subst (SweepsAs n fuel area) e answered-as, as-answered)
+
+-- ---- the ways out of `sweep`
+
+module _ (n fuel area : ℕ) (a : Admission) (said : replyOf a ≡ admitted n fuel area) where
+  pub sweep-refused : Refusal a → passedOn (replyOf a) ≡ sweepOf n fuel area
+  unfolding sweepOf
+  sweep-refused k = said-refused n fuel area a said (whole n fuel area) k
+
+  pub sweep-answered : tagOf the-type a ≡ 4 → (w : Swept) → Summed n fuel area (ways 1 n) w → Reply.answered w ≡ sweepOf n fuel area
+  unfolding sweepOf
+  sweep-answered k w r =
+      ap (λ (x : Swept). Reply.answered x) (summed-all n fuel area (ways 1 n) w r (omega arith))
+      ∙ said-answered n fuel area a said k (whole n fuel area)
 
 -- ---- what the numbers of any answer are
 
--- an answer's numbers are those of all runs, of a size that is swept
+-- an answer's numbers are those of all runs, of a size that is run
 pub answer-sums :
     (n fuel area : ℕ) (w : Swept) → sweepOf n fuel area ≡ Reply.answered w →
-    SmallSize n × (fuel ≤ fuelLimit) × (w ≡ sweptOf (map (run fuel area) (smallTerms n)))
-answer-sums n fuel area w e = go (answered-as n fuel area) e
+    Admitted n fuel area × (w ≡ sweptOf (map (run fuel area) (smallTerms n)))
+unfolding sweepOf
+answer-sums n fuel area w e = go (decided n fuel area) e
   where
     go :
-        {reply : Reply Swept} → SweepsAs n fuel area reply → reply ≡ Reply.answered w →
-        SmallSize n × (fuel ≤ fuelLimit) × (w ≡ sweptOf (map (run fuel area) (smallTerms n)))
-    go (SweepsAs.not-swept h) q = let z : _≡_ {A = ℕ} 0 1 = cc in absurd (omega arith)
-    go (SweepsAs.fuel-too-high s h) q = let z : _≡_ {A = ℕ} 0 1 = cc in absurd (omega arith)
-    go (SweepsAs.area-too-long s f h) q = let z : _≡_ {A = ℕ} 0 1 = cc in absurd (omega arith)
-    go (SweepsAs.area-too-short s f a h) q = let z : _≡_ {A = ℕ} 0 1 = cc in absurd (omega arith)
-    go (SweepsAs.sweeps {ts = ts} {w = x} s f a h each sums) q =
-        let same : x ≡ w = cc in (
-          s,
-          f,
-          sym same
-              ∙ sums-only sums
-              ∙ ap (λ (us : List Term). sweptOf (map (run fuel area) us)) (each-unique n ts (smallTerms n) each (each-small n)),
-        )
+        {reply : Reply Unit} → Decided n fuel area reply → ifAdmitted reply (whole n fuel area) ≡ Reply.answered w →
+        Admitted n fuel area × (w ≡ whole n fuel area)
+    go (Decided.refuses r) q = let z : _≡_ {A = ℕ} 0 1 = cc in absurd (omega arith)
+    go (Decided.admits a) q = (a, cc)
 
 module _ (n fuel area finished spent no-room steps : ℕ)
     (e : sweepOf n fuel area ≡ Reply.answered (Swept.swept finished spent no-room steps)) where
   -- some run finished
   pub never-none : 1 ≤ finished
   never-none =
-      let (small, fuelled, same) = answer-sums n fuel area (Swept.swept finished spent no-room steps) e in
+      let (allowed, same) = answer-sums n fuel area (Swept.swept finished spent no-room steps) e in
       let first : finished ≡ length (ending Outcome.finished (map (run fuel area) (smallTerms n))) = cc same in
-      omega (arith, some-finished n fuel area (small .0))
+      omega (arith, some-finished n fuel area (allowed .small .0))
 
   -- the three counts make up all small terms
   pub all-counted : finished + spent + no-room ≡ length (smallTerms n)
   all-counted =
-      let (small, fuelled, same) = answer-sums n fuel area (Swept.swept finished spent no-room steps) e in
+      let (allowed, same) = answer-sums n fuel area (Swept.swept finished spent no-room steps) e in
       let rs = map (run fuel area) (smallTerms n) in
       let a : finished ≡ length (ending Outcome.finished rs) = cc same in
       let b : spent ≡ length (ending Outcome.spent rs) = cc same in
@@ -179,7 +162,7 @@ module _ (n fuel area finished spent no-room steps : ℕ)
   -- and the steps are at most the fuel for each of them
   pub steps-few : steps ≤ fuel * length (smallTerms n)
   steps-few =
-      let (small, fuelled, same) = answer-sums n fuel area (Swept.swept finished spent no-room steps) e in
+      let (allowed, same) = answer-sums n fuel area (Swept.swept finished spent no-room steps) e in
       let a : steps ≡ stepsOf (ending Outcome.finished (map (run fuel area) (smallTerms n))) = cc same in
       subst (λ (k : ℕ). k ≤ fuel * length (smallTerms n)) (sym a) (steps-fuel n fuel area)
 
@@ -187,7 +170,7 @@ module _ (n fuel area finished spent no-room steps : ℕ)
   pub each-finishes :
       finished ≡ length (smallTerms n) → (t : Term) → List·Memᴰ t (smallTerms n) → outcome (run fuel area t) ≡ Outcome.finished
   each-finishes all t m =
-      let (small, fuelled, same) = answer-sums n fuel area (Swept.swept finished spent no-room steps) e in
+      let (allowed, same) = answer-sums n fuel area (Swept.swept finished spent no-room steps) e in
       let rs = map (run fuel area) (smallTerms n) in
       let a : finished ≡ length (ending Outcome.finished rs) = cc same in
       all-end Outcome.finished rs (sym a ∙ all ∙ sym (length-map (smallTerms n) (run fuel area))) (run fuel area t)

@@ -1,6 +1,4 @@
-pub mod Small
-pub mod Texts
 pub mod Sweep
-pub mod Answer
 pub mod Loop
+pub mod Answer
 pub mod Examples

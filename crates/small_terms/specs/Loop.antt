@@ -1,36 +1,23 @@
--- What the parts of the sweep ask and leave: one letter of a text, one run, and the runs so far (REQUIREMENTS, Small terms).
-use Prim.Native.Nat.{ℕ, suc, _+_, _-_, _*_, _≤_, _<_}
+-- What the runs of small terms ask and leave: one run, and the runs so far (REQUIREMENTS, Small terms).
+use Prim.Native.Nat.{ℕ, _+_, _*_, _≤_}
 use mathlib.Core.Path.{_≡_}
-use mathlib.Core.List.{List, [], _∷_, map}
-use lib.ListN.{length, getD, take}
-use Rattle.calculus.specs.Limits.{areaLimit, fuelLimit}
+use mathlib.Core.List.{List, map}
+use lib.ListN.{length, take}
+use Rattle.calculus.specs.Limits.{fuelLimit}
 use Rattle.calculus.specs.Run.{Outcome, run, outcome, count}
-use Rattle.reading.specs.Arity.{arityOf}
-use Rattle.small_terms.specs.Texts.{texts, ways, termIn, smallTerms}
-use Rattle.small_terms.specs.Sweep.{largestSize, Swept, sweptOf}
+use Rattle.small_texts.specs.Texts.{termAt, smallTerms}
+use Rattle.small_admission.specs.Admission.{Admitted}
+use Rattle.small_terms.specs.Sweep.{Swept, sweptOf}
 
--- `Chosen owing n i b j`: text i of those of so many terms with n letters and one more begins with b, and goes on as text j of those that
--- can follow b
-pub record Chosen (owing n i b j : ℕ) : Type 0 where
-  pub says : getD (texts owing (suc n)) i [] ≡ b ∷ getD (texts (owing - 1 + arityOf b) n) j []
-  pub within : j < ways (owing - 1 + arityOf b) n
-
--- the numbers of a call that is not refused
-pub record Sweepable (n fuel area : ℕ) : Type 0 where
-  pub small : n ≤ largestSize
-  pub fuelled : fuel ≤ fuelLimit
-  pub short : area ≤ areaLimit
-  pub room : n ≤ area
-
--- areas for such a call
+-- areas for a call that is not refused
 pub record Ready (n fuel : ℕ) (area work : List ℕ) : Type 0 where
-  pub asked : Sweepable n fuel (length area)
+  pub asked : Admitted n fuel (length area)
   pub level : length work ≡ length area
 
 -- `Ran n i fuel area o k`: the run of small term i, from 0, ends so and makes that many steps
 pub record Ran (n i fuel area : ℕ) (o : Outcome) (k : ℕ) : Type 0 where
-  pub ends : o ≡ outcome (run fuel area (termIn (getD (texts 1 n) i [])))
-  pub counts : k ≡ count (run fuel area (termIn (getD (texts 1 n) i [])))
+  pub ends : o ≡ outcome (run fuel area (termAt n i))
+  pub counts : k ≡ count (run fuel area (termAt n i))
   pub bounded : k ≤ fuelLimit
 
 -- what runs come to with one more

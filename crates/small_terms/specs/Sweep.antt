@@ -1,24 +1,16 @@
 -- Every small term run, and what becomes of the runs (REQUIREMENTS, Small terms): as a function, and as a relation over the loop of
 -- finishing. proofs/Sweeps.antt shows that they agree.
-use Prim.Native.Nat.{ℕ, suc, _+_, _≤_, _<_}
+use Prim.Native.Nat.{ℕ, suc, _+_}
 use mathlib.Core.Path.{_≡_}
-use mathlib.Core.Bool.{Bool, true, false, not, _&&_, cond}
+use mathlib.Core.Bool.{Bool, true, false, cond}
 use mathlib.Core.List.{List, [], _∷_, map}
-use lib.Dec.{leb, ltb}
 use lib.ListN.{length}
-use Rattle.calculus.specs.Limits.{areaLimit, fuelLimit}
 use Rattle.calculus.specs.Term.{Term}
 use Rattle.calculus.specs.Run.{Outcome, Run, Runs, run, outcome, count}
-use Rattle.reading.specs.Reply.{Reply, refuseIf}
-use Rattle.small_terms.specs.Small.{EachSmall}
-use Rattle.small_terms.specs.Texts.{smallTerms}
-
--- the sizes of the smallest and of the largest terms that are swept
-abbrev pub smallestSize : ℕ
-smallestSize = 1
-
-abbrev pub largestSize : ℕ
-largestSize = 7
+use Rattle.reading.specs.Reply.{Reply}
+use Rattle.small_texts.specs.Small.{EachSmall}
+use Rattle.small_texts.specs.Texts.{smallTerms}
+use Rattle.small_admission.specs.Admission.{admitted, ifAdmitted, Refused, Admitted}
 
 -- how many runs finished, were spent and had no room, and the steps of the finished ones in all
 pub data Swept : Type 0 where
@@ -54,18 +46,9 @@ sweptOf rs =
     (length (ending Outcome.finished rs)) (length (ending Outcome.spent rs)) (length (ending Outcome.no-room rs))
     (stepsOf (ending Outcome.finished rs))
 
--- whether terms of that size are swept
-abbrev pub isSmallSize : ℕ → Bool
-isSmallSize n = leb smallestSize n && leb n largestSize
-
 -- the answer to any three numbers
 unfoldable pub sweepOf : (n fuel area : ℕ) → Reply Swept
-sweepOf n fuel area =
-    refuseIf (not (isSmallSize n)) 32
-    (refuseIf (ltb fuelLimit fuel) 4
-    (refuseIf (ltb areaLimit area) 1
-    (refuseIf (ltb area n) 3
-    (Reply.answered (sweptOf (map (run fuel area) (smallTerms n)))))))
+sweepOf n fuel area = ifAdmitted (admitted n fuel area) (sweptOf (map (run fuel area) (smallTerms n)))
 
 -- ---- as a relation
 
@@ -82,17 +65,8 @@ pub data Sums (fuel area : ℕ) : List Term → Swept → Type 0 where
       {t : Term} {ts : List Term} {r : Run} {f s n k : ℕ} → Runs fuel area 0 t r → outcome r ≡ Outcome.no-room →
       Sums fuel area ts (Swept.swept f s n k) → Sums fuel area (t ∷ ts) (Swept.swept f s (suc n) k)
 
--- sizes that are swept
-abbrev pub SmallSize : ℕ → Type 0
-SmallSize n = (smallestSize ≤ n) × (n ≤ largestSize)
-
 -- `SweepsAs n fuel area reply`: each reply and when it is given
 pub data SweepsAs (n fuel area : ℕ) : Reply Swept → Type 0 where
-  not-swept : (SmallSize n → ⊥) → SweepsAs n fuel area (Reply.refused 32 0)
-  fuel-too-high : SmallSize n → fuelLimit < fuel → SweepsAs n fuel area (Reply.refused 4 0)
-  area-too-long : SmallSize n → fuel ≤ fuelLimit → areaLimit < area → SweepsAs n fuel area (Reply.refused 1 0)
-  area-too-short : SmallSize n → fuel ≤ fuelLimit → area ≤ areaLimit → area < n → SweepsAs n fuel area (Reply.refused 3 0)
+  refuses : {number : ℕ} → Refused n fuel area number → SweepsAs n fuel area (Reply.refused number 0)
   sweeps :
-      {ts : List Term} {w : Swept} →
-      SmallSize n → fuel ≤ fuelLimit → area ≤ areaLimit → n ≤ area → EachSmall n ts → Sums fuel area ts w →
-      SweepsAs n fuel area (Reply.answered w)
+      {ts : List Term} {w : Swept} → Admitted n fuel area → EachSmall n ts → Sums fuel area ts w → SweepsAs n fuel area (Reply.answered w)

@@ -6,7 +6,8 @@ use Rattle.calculus.specs.Letter.{letterOf}
 use Rattle.calculus.specs.Parse.{termOf}
 use Rattle.slices.specs.Numeral.{numeral, decimal, numberOf, decimalOf}
 use Rattle.line_states.specs.Parts.{partsOf}
-use Rattle.small_terms.specs.Texts.{smallTerms}
+use Rattle.small_texts.specs.Texts.{smallTerms}
+use Rattle.small_admission.specs.Admission.{admitted}
 use Rattle.small_terms.specs.Sweep.{sweepOf}
 use Rattle.sweep_line.specs.Numbers.{numbersOf}
 use Rattle.sweep_answers.specs.Program.{sweepProgram}
@@ -14,5 +15,5 @@ use Rattle.sweep_answers.specs.Examples.{Row, rows}
 
 -- every row's input is printed as it says
 pub rows-hold : map (λ (r : Row). sweepProgram (ascii (r .input))) rows ≡ map (λ (r : Row). ascii (r .printed)) rows
-unfolding sweepProgram numbersOf partsOf sweepOf smallTerms termOf letterOf numeral decimal numberOf decimalOf
+unfolding sweepProgram numbersOf partsOf sweepOf admitted smallTerms termOf letterOf numeral decimal numberOf decimalOf
 rows-hold = refl

@@ -1,3 +1,4 @@
 pub mod Printing
+pub mod Caps
 pub mod Programs
 pub mod Examples

@@ -1,29 +1,30 @@
 -- The program's definition on the whole input: what `answer_sweep` prints for a line that was fed the input, in chunks cut anywhere, is
 -- `sweepProgram` of the input, in 44 bytes or fewer. Carried by what the line asks (`line-asks`), and that the caps change no answer.
 -- Assumes nothing.
-use Prim.Native.Nat.{ℕ, _*_, _/_, _%_, _≤_, _<_, min}
-use native.Mathlib.Decide.{decLe}
+use Prim.Native.Nat.{ℕ, _*_, _/_, _%_, _≤_, _<_}
 use native.Mathlib.Omega.{arith}
 use native.Mathlib.Nat.{div-le-self, mod-lt, mul-le-mul}
 use mathlib.Core.Path.{_≡_, refl, sym, _∙_, ap}
 use mathlib.Core.Bool.{Bool, true, false}
-use mathlib.Core.List.{List, [], _∷_}
+use mathlib.Core.List.{List, [], _∷_, map}
 use mathlib.Core.Option.{Option, none, some}
 use lib.ListN.{length, take}
-use Rattle.calculus.specs.Limits.{areaLimit, fuelLimit}
+use Rattle.calculus.specs.Limits.{fuelLimit}
+use Rattle.calculus.specs.Run.{run}
 use Rattle.slices.specs.Numeral.{decimal}
 use Rattle.slices.specs.Put.{put, behind}
 use Rattle.slices.proofs.Decimal.{decimal-length}
 use Rattle.reading.specs.Reply.{Reply}
 use Rattle.printing.proofs.Writing.{length-row}
-use Rattle.line_states.specs.Fed.{numberCap}
+use Rattle.answer_lines.specs.Shown.{refusedLine}
 use Rattle.line_chunks.proofs.Says.{inputOf, after}
-use Rattle.small_terms.specs.Texts.{smallTerms}
-use Rattle.small_terms.specs.Sweep.{largestSize, Swept, isSmallSize, sweepOf, SweepsAs}
+use Rattle.small_texts.specs.Texts.{largestSize, smallTerms}
+use Rattle.small_texts.proofs.Indexed.{length-small}
+use Rattle.small_admission.specs.Admission.{admitted, ifAdmitted, Refused}
+use Rattle.small_terms.specs.Sweep.{Swept, sweptOf, sweepOf, SweepsAs}
 use Rattle.small_terms.specs.Loop.{mostTerms}
-use Rattle.small_terms.proofs.Summing.{length-small, at-most}
+use Rattle.small_terms.proofs.Summing.{at-most}
 use Rattle.small_terms.proofs.Sweeps.{answered-as, never-none, all-counted, steps-few}
-use Rattle.small_terms.proofs.Replies.{small-size, size-refused, fuel-refused, area-refused}
 use Rattle.sweep_line.specs.Numbers.{Numbers, numbersOf}
 use Rattle.sweep_line.specs.Answer.{askedOf}
 use Rattle.sweep_line.proofs.Asks.{askedBy, line-asks}
@@ -31,50 +32,26 @@ use Rattle.answering.specs.Program.{unlessFailed}
 use Rattle.answering.proofs.Lengths.{refused-length, line-whole}
 use Rattle.sweep_answers.specs.Shown.{sweptLine, shownSweep, printedSweep}
 use Rattle.sweep_answers.specs.Program.{numbersLine, sweepProgram}
+use Rattle.sweep_answers.proofs.Caps.{cap, Capped, capped}
 
 -- ---- the caps
 
--- a size out of range stays so
-size-capped : (n : ℕ) → isSmallSize n ≡ false → isSmallSize (min n numberCap) ≡ false
-size-capped n e = go (decLe n numberCap)
-  where
-    go : Dec (n ≤ numberCap) → isSmallSize (min n numberCap) ≡ false
-    go (yes h) = let same : min n numberCap ≡ n = omega arith in ap isSmallSize same ∙ e
-    go (no h) = let same : min n numberCap ≡ numberCap = omega arith in ap isSmallSize same
-
 -- numbers up to the cap are answered as the numbers are
-module _ (n fuel area : ℕ) where
-  abbrev Same : (n′ fuel′ area′ : ℕ) → Type 0
-  Same n′ fuel′ area′ = shownSweep n′ (sweepOf n′ fuel′ area′) ≡ shownSweep n (sweepOf n fuel area)
+same-line : (n fuel area : ℕ) → shownSweep (cap n) (sweepOf (cap n) (cap fuel) (cap area)) ≡ shownSweep n (sweepOf n fuel area)
+unfolding sweepOf
+same-line n fuel area = go (capped n fuel area)
+  where
+    whole : (n fuel area : ℕ) → Swept
+    whole n fuel area = sweptOf (map (run fuel area) (smallTerms n))
 
-  area-capped : isSmallSize n ≡ true → fuel ≤ fuelLimit → Dec (area ≤ areaLimit) → Same n fuel (min area numberCap)
-  area-capped small fuelled (yes h) =
-      let same : min area numberCap ≡ area = omega arith in
-      ap (λ (a : ℕ). shownSweep n (sweepOf n fuel a)) same
-  area-capped small fuelled (no h) =
-      sym (ap (shownSweep n) (area-refused n fuel (min area numberCap) small fuelled (omega arith)))
-      ∙ ap (shownSweep n) (area-refused n fuel area small fuelled (omega arith))
-
-  fuel-capped : isSmallSize n ≡ true → Dec (fuel ≤ fuelLimit) → Same n (min fuel numberCap) (min area numberCap)
-  fuel-capped small (yes h) =
-      let same : min fuel numberCap ≡ fuel = omega arith in
-      ap (λ (f : ℕ). shownSweep n (sweepOf n f (min area numberCap))) same ∙ area-capped small h (decLe area areaLimit)
-  fuel-capped small (no h) =
-      sym (ap (shownSweep n) (fuel-refused n (min fuel numberCap) (min area numberCap) small (omega arith)))
-      ∙ ap (shownSweep n) (fuel-refused n fuel area small (omega arith))
-
-  capped : Same (min n numberCap) (min fuel numberCap) (min area numberCap)
-  capped = go (isSmallSize n) refl
-    where
-      go : (b : Bool) → isSmallSize n ≡ b → Same (min n numberCap) (min fuel numberCap) (min area numberCap)
-      go true e =
-          let (low, high) = small-size n e in
-          let same : min n numberCap ≡ n = omega arith in
-          ap (λ (k : ℕ). shownSweep k (sweepOf k (min fuel numberCap) (min area numberCap))) same ∙ fuel-capped e (decLe fuel fuelLimit)
-      go false e =
-          sym
-          (ap (shownSweep (min n numberCap)) (size-refused (min n numberCap) (min fuel numberCap) (min area numberCap) (size-capped n e)))
-          ∙ ap (shownSweep n) (size-refused n fuel area e)
+    go :
+        Capped n fuel area →
+        shownSweep (cap n) (ifAdmitted (admitted (cap n) (cap fuel) (cap area)) (whole (cap n) (cap fuel) (cap area)))
+        ≡ shownSweep n (ifAdmitted (admitted n fuel area) (whole n fuel area))
+    go (Capped.alike number e f) =
+        ap (λ (r : Reply Unit). shownSweep (cap n) (ifAdmitted r (whole (cap n) (cap fuel) (cap area)))) f
+        ∙ sym (ap (λ (r : Reply Unit). shownSweep n (ifAdmitted r (whole n fuel area))) e)
+    go (Capped.unchanged a b c) = rw (a, b, c)
 
 -- ---- how long the line is
 
@@ -99,21 +76,25 @@ swept-length n finished spent no-room steps small least a b c d =
       decimal-length 3 (steps % finished) (omega arith),
     )
 
--- every answer's line has 44 bytes or fewer
+-- a refusal's has 24 bytes or fewer
+pub refusal-length : {n fuel area number : ℕ} → Refused n fuel area number → length (refusedLine number 0) ≤ 24
+refusal-length (Refused.not-small h) = refused-length 32 0 (omega arith) (omega arith)
+refusal-length (Refused.fuel-too-high s h) = refused-length 4 0 (omega arith) (omega arith)
+refusal-length (Refused.area-too-long s f h) = refused-length 1 0 (omega arith) (omega arith)
+refusal-length (Refused.area-too-short s f a h) = refused-length 3 0 (omega arith) (omega arith)
+
+-- so every answer's line has 44 bytes or fewer
 answer-length : (n fuel area : ℕ) (reply : Reply Swept) → SweepsAs n fuel area reply → sweepOf n fuel area ≡ reply
     → length (shownSweep n reply) ≤ 44
-answer-length n fuel area reply (SweepsAs.not-swept h) e = omega (arith, refused-length 32 0 (omega arith) (omega arith))
-answer-length n fuel area reply (SweepsAs.fuel-too-high s h) e = omega (arith, refused-length 4 0 (omega arith) (omega arith))
-answer-length n fuel area reply (SweepsAs.area-too-long s f h) e = omega (arith, refused-length 1 0 (omega arith) (omega arith))
-answer-length n fuel area reply (SweepsAs.area-too-short s f a h) e = omega (arith, refused-length 3 0 (omega arith) (omega arith))
-answer-length n fuel area reply (SweepsAs.sweeps {w = Swept.swept finished spent no-room steps} s f a h each sums) e =
+answer-length n fuel area reply (SweepsAs.refuses r) e = omega (arith, refusal-length r)
+answer-length n fuel area reply (SweepsAs.sweeps {w = Swept.swept finished spent no-room steps} allowed each sums) e =
     let all = all-counted n fuel area finished spent no-room steps e in
     let few = steps-few n fuel area finished spent no-room steps e in
     let many = length-small n in
-    let most = at-most n (s .1) in
+    let most = at-most n (allowed .small .1) in
     let few-terms : length (smallTerms n) ≤ mostTerms = omega arith in
-    let limit : fuel * length (smallTerms n) ≤ fuelLimit * mostTerms = mul-le-mul f few-terms in
-    swept-length n finished spent no-room steps (s .1) (never-none n fuel area finished spent no-room steps e)
+    let limit : fuel * length (smallTerms n) ≤ fuelLimit * mostTerms = mul-le-mul (allowed .fuelled) few-terms in
+    swept-length n finished spent no-room steps (allowed .small .1) (never-none n fuel area finished spent no-room steps e)
     (omega arith) (omega arith) (omega arith) (omega arith)
 
 numbers-length : (o : Option Numbers) → length (numbersLine o) ≤ 44
@@ -130,7 +111,7 @@ program-length input = numbers-length (numbersOf input)
 -- what is asked up to the caps is printed as the numbers are
 asked-line : (o : Option Numbers) → printedSweep (askedBy o) ≡ numbersLine o
 asked-line none = refl
-asked-line (some (Numbers.numbers n fuel area)) = capped n fuel area
+asked-line (some (Numbers.numbers n fuel area)) = same-line n fuel area
 
 module _ (buffer : List ℕ) (chunks : List (List ℕ)) where
   -- the line that `answer_sweep` prints, once the input was fed

@@ -6,8 +6,8 @@ use Rattle.reading.specs.Reply.{Reply, numberIn, placeIn}
 use Rattle.printing.specs.Printed.{rowOf}
 use Rattle.answer_lines.specs.Shown.{refusedLine}
 use Rattle.small_terms.specs.Sweep.{Swept, sweepOf}
-use Rattle.small_terms.specs.Answer.{answerOf}
-use Rattle.small_terms.specs.declared.Sweeping.the-variants.{NotSmall}
+use Rattle.small_admission.specs.Answer.{replyOf}
+use Rattle.small_admission.specs.declared.Admission.the-variants.{NotSmall}
 use Rattle.sweep_line.specs.declared.Asked.{Asked}
 use Rattle.sweep_line.specs.declared.Asked.the-variants.{OtherShape, Request}
 
@@ -20,7 +20,7 @@ sweptLine size (Swept.swept finished spent no-room steps) =
     ∷ decimal (steps / finished) ∷ decimal (steps % finished) ∷ [])
 
 -- a refusal's number and its place
-abbrev pub refusalLine : Reply Swept → List ℕ
+abbrev pub refusalLine : {X : Type 0} → Reply X → List ℕ
 refusalLine reply = refusedLine (numberIn reply) (placeIn reply)
 
 -- the line of any answer
@@ -30,7 +30,7 @@ shownSweep size (Reply.answered w) = sweptLine size w
 
 -- input of another shape is refused as a size out of range is
 abbrev pub shapeLine : List ℕ
-shapeLine = refusalLine (answerOf NotSmall)
+shapeLine = refusalLine (replyOf NotSmall)
 
 -- the line that `answer_sweep` puts into its buffer
 abbrev pub printedSweep : Asked → List ℕ

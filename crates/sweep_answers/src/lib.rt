@@ -1,4 +1,5 @@
 // What the program for small terms prints, as a function on bytes: no input and no output here.
+use small_admission::Admission;
 use small_terms::Sweeping;
 use small_terms::Tally;
 use sweep_line::Asked;
@@ -6,7 +7,8 @@ ghost use mathlib.Core.Path.{_≡_};
 ghost use Prim.Native.Nat.{_≤_};
 ghost use Rattle.slices.specs.Put.{put, behind};
 ghost use Rattle.small_terms.specs.Sweep.{sweepOf};
-ghost use Rattle.small_terms.specs.Answer.{sweptIn, answerOf};
+ghost use Rattle.small_admission.specs.Answer.{replyOf};
+ghost use Rattle.small_terms.specs.Answer.{sweptIn};
 ghost use Rattle.sweep_answers.specs.Shown.{refusalLine, sweptLine, shownSweep, printedSweep};
 
 // The line for what the input asks for, put at the start of `out`; answered is its length. Where it does not fit, `out` stays and 0 is
@@ -16,7 +18,7 @@ pub fn answer_sweep(asked: Asked, out: &mut [u8]) -> usize
         × (r ≡ behind 0 (printedSweep asked) (now (out .entry))) ⌝ }
 {
     let Asked::Request { size, fuel, area } = asked else {
-        return print_refusal(Sweeping::NotSmall, out);
+        return print_refusal(Admission::NotSmall, out);
     };
     print_sweep(size, fuel, area, out)
 }
@@ -26,19 +28,18 @@ fn print_sweep(size: u64, fuel: u64, area: u64, out: &mut [u8]) -> usize
     ensures { λ r. ⌜ (now (out .exit) ≡ put 0 (shownSweep «size» (sweepOf «size» fuel area)) (now (out .entry)))
         × (r ≡ behind 0 (shownSweep «size» (sweepOf «size» fuel area)) (now (out .entry))) ⌝ }
 {
-    let sweeping = small_terms::sweep(size, fuel, area);
-    let Sweeping::Swept(tally) = sweeping else {
-        return print_refusal(sweeping, out);
-    };
-    print_tally(size, tally, out)
+    match small_terms::sweep(size, fuel, area) {
+        Sweeping::Refused(admission) => print_refusal(admission, out),
+        Sweeping::Swept(tally) => print_tally(size, tally, out),
+    }
 }
 
 // The line of a refusal; each has the place 0.
-fn print_refusal(sweeping: Sweeping, out: &mut [u8]) -> usize
-    ensures { λ r. ⌜ (now (out .exit) ≡ put 0 (refusalLine (answerOf sweeping)) (now (out .entry)))
-        × (r ≡ behind 0 (refusalLine (answerOf sweeping)) (now (out .entry))) ⌝ }
+pub fn print_refusal(admission: Admission, out: &mut [u8]) -> usize
+    ensures { λ r. ⌜ (now (out .exit) ≡ put 0 (refusalLine (replyOf admission)) (now (out .entry)))
+        × (r ≡ behind 0 (refusalLine (replyOf admission)) (now (out .entry))) ⌝ }
 {
-    printing::print_numbers(b"refused", small_terms::number(sweeping), 0, out)
+    printing::print_numbers(b"refused", small_admission::number(admission), 0, out)
 }
 
 // The line of a tally: the size, the four numbers, and the steps divided by the finished runs, with what is left.

@@ -1,13 +1,14 @@
 -- `small_terms::run_all` meets its contract. The invariant: the runs of the first i terms come to the tally (`Summed`). Assumes nothing.
 use Prim.Native.Nat.{ℕ, _+_, _-_, _≤_}
 use native.Mathlib.Omega.{arith}
-use mathlib.Core.Path.{_≡_, refl, sym, subst}
+use mathlib.Core.Path.{_≡_, refl, sym, _∙_, subst}
 use lib.ListN.{length}
 use borrow.Author.Needs.{needs}
 use Rattle.finishing.specs.Answer.{outcomeOf}
 use Rattle.small_terms.specs.Answer.{sweptIn}
-use Rattle.small_terms.specs.Texts.{ways as waysOf}
+use Rattle.small_texts.specs.Texts.{ways as waysOf}
 use Rattle.small_terms.specs.Loop.{Ran, Summed}
+use Rattle.small_texts.proofs.Indexed.{how-many}
 use Rattle.small_terms.proofs.Running.{still-ready}
 use Rattle.small_terms.proofs.Summing.{summed-none, summed-more, few-enough}
 use Rattle.small_terms.proofs.run_all.Statement.{statement}
@@ -15,27 +16,32 @@ use Rattle.small_terms.proofs.run_all.Tie as tie
 
 abbrev Inv-loop : tie.InvT-loop
 Inv-loop n area₀ work₀ fuel terms tally₀ i₀ area work tally i =
-    (i ≤ terms) × (length area ≡ length area₀) × (length work ≡ length work₀) × Summed n fuel (length area₀) i (sweptIn tally)
+    (terms ≡ waysOf 1 n) × (i ≤ terms) × (length area ≡ length area₀) × (length work ≡ length work₀) × Summed n fuel (length area₀) i (sweptIn tally)
 
 abbrev μ-loop : tie.MeasureT-loop
 μ-loop n area₀ work₀ fuel terms tally₀ i₀ area work tally i = terms - i
 
-ways-requires : tie.Need-ways-requires Inv-loop μ-loop
-ways-requires c κs = c .before .before .pre .asked .small
+how-many-requires : tie.Need-how-many-requires Inv-loop μ-loop
+how-many-requires c κs = search needs
 
 loop-holds : tie.Need-loop-holds Inv-loop μ-loop
 loop-holds c =
-    let start = c .before .before .before in
-    (omega arith, refl, refl, summed-none (start .args .n) (start .args .fuel) (length (start .args .area .now)))
+    let start = c .before .before .before in (
+      c .how-many .ensures ∙ sym (how-many (start .args .n) (start .pre .asked .small .1)),
+      omega arith,
+      refl,
+      refl,
+      summed-none (start .args .n) (start .args .fuel) (length (start .args .area .now)),
+    )
 
 run-one-requires : tie.Need-run-one-requires Inv-loop μ-loop
 run-one-requires c κs =
     let at-loop = c .before .before .before in
-    let at-ways = at-loop .before in
-    let start = at-ways .before .before .before in (
+    let at-count = at-loop .before in
+    let start = at-count .before .before .before in (
       still-ready (start .args .n) (start .args .fuel) (start .args .area .now) (start .args .work .now) _ _ (start .pre)
-          (at-loop .loop .inv .1) (at-loop .loop .inv .2),
-      omega (arith, at-ways .ways .ensures, c .before .before .loop-test .taken),
+          (at-loop .loop .inv .2) (at-loop .loop .inv .3),
+      omega (arith, at-loop .loop .inv .0, c .before .before .loop-test .taken),
     )
 
 counted-requires : tie.Need-counted-requires Inv-loop μ-loop
@@ -43,10 +49,10 @@ counted-requires c κs =
     let at-run-one = c .before .before .before .before in
     let at-loop-test = at-run-one .before .before .before in
     let at-loop = at-loop-test .before in
-    let at-ways = at-loop .before in
-    let start = at-ways .before .before .before in (
-      few-enough (start .args .n) (at-loop .loop .i) (sweptIn (at-loop .loop .tally)) (start .pre .asked .small)
-          (omega (arith, at-ways .ways .ensures, at-loop-test .loop-test .taken)) (at-loop .loop .inv .3 .few),
+    let at-count = at-loop .before in
+    let start = at-count .before .before .before in (
+      few-enough (start .args .n) (at-loop .loop .i) (sweptIn (at-loop .loop .tally)) (start .pre .asked .small .1)
+          (omega (arith, at-loop .loop .inv .0, at-loop-test .loop-test .taken)) (at-loop .loop .inv .4 .few),
       at-run-one .run-one .ensures .bounded,
     )
 
@@ -61,17 +67,18 @@ loop-again c =
     let made = c .before .before .before .before .before .run-one in
     let at-loop-test = c .before .before .before .before .before .before .before .before in
     let loop = at-loop-test .before .loop in
-    let at-ways = at-loop-test .before .before in
-    let a = at-ways .before .before .before .args in
+    let at-count = at-loop-test .before .before in
+    let a = at-count .before .before .before .args in
     let long = length (a .area .now) in
     let o = outcomeOf (made .result .outcome) in
-    let ran = subst (λ (m : ℕ). Ran (a .n) (loop .i) (a .fuel) m o (made .result .count)) (loop .inv .1) (made .ensures) in (
+    let ran = subst (λ (m : ℕ). Ran (a .n) (loop .i) (a .fuel) m o (made .result .count)) (loop .inv .2) (made .ensures) in (
+      loop .inv .0,
       omega (arith, at-loop-test .loop-test .taken),
       search needs,
       search needs,
       subst (Summed (a .n) (a .fuel) long (loop .i + 1)) (sym (c .counted .ensures))
-          (summed-more (a .n) (a .fuel) long (loop .i) (sweptIn (loop .tally)) o (made .result .count) (loop .inv .3)
-          (omega (arith, at-ways .ways .ensures, at-loop-test .loop-test .taken)) ran),
+          (summed-more (a .n) (a .fuel) long (loop .i) (sweptIn (loop .tally)) o (made .result .count) (loop .inv .4)
+          (omega (arith, loop .inv .0, at-loop-test .loop-test .taken)) ran),
     )
 
 same-length : tie.Need-same-length Inv-loop μ-loop
@@ -83,10 +90,10 @@ same-length-2 c = search needs
 returns : tie.Need-returns Inv-loop μ-loop
 returns c =
     let loop = c .before .loop in
-    let at-ways = c .before .before in
-    let a = at-ways .before .before .before .args in
-    let all : loop .i ≡ waysOf 1 (a .n) = omega (arith, at-ways .ways .ensures, c .loop-test .left, loop .inv .0) in
-    subst (λ (i : ℕ). Summed (a .n) (a .fuel) (length (a .area .now)) i (sweptIn (loop .tally))) all (loop .inv .3)
+    let at-count = c .before .before in
+    let a = at-count .before .before .before .args in
+    let all : loop .i ≡ waysOf 1 (a .n) = omega (arith, loop .inv .0, c .loop-test .left, loop .inv .1) in
+    subst (λ (i : ℕ). Summed (a .n) (a .fuel) (length (a .area .now)) i (sweptIn (loop .tally))) all (loop .inv .4)
 
 pub run-all-spec : {M : Type 1} → statement M
 run-all-spec =
@@ -94,7 +101,7 @@ run-all-spec =
     (tie.spec
     Inv-loop
     μ-loop
-    ways-requires
+    how-many-requires
     loop-holds
     run-one-requires
     counted-requires

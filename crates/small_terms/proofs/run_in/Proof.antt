@@ -5,7 +5,7 @@ use lib.ListN.{replicate}
 use lib.Seq.{length-take-le}
 use borrow.Author.Needs.{needs}
 use Rattle.calculus.specs.Limits.{areaLimit}
-use Rattle.small_terms.specs.Texts.{ways as waysOf}
+use Rattle.small_texts.specs.Texts.{ways as waysOf}
 use Rattle.small_terms.specs.Answer.{sweptIn}
 use Rattle.small_terms.specs.Loop.{Summed}
 use Rattle.small_terms.proofs.Running.{cut-ready}

@@ -1,10 +1,7 @@
 -- `small_terms::run_one` meets its contract: finishing runs the term whose text was written. Assumes nothing.
-use Prim.Native.Nat.{ℕ, _<_}
-use native.Mathlib.Omega.{arith}
-use mathlib.Core.Path.{sym, subst}
+use mathlib.Core.Path.{sym}
 use lib.Seq.{length-take-le}
 use borrow.Author.Needs.{needs}
-use Rattle.small_terms.specs.Texts.{ways}
 use Rattle.small_terms.proofs.Running.{ran-one}
 use Rattle.small_terms.proofs.run_one.Statement.{statement}
 use Rattle.small_terms.proofs.run_one.Tie as tie
@@ -18,12 +15,7 @@ slice-aggregate-write-text c =
     sym (length-take-le (start .args .n) (start .args .area .now) (start .pre .0 .asked .room))
 
 write-text-requires : tie.Need-write-text-requires
-write-text-requires c κs =
-    let start = c .before .before .before in
-    let same = length-take-le (start .args .n) (start .args .area .now) (start .pre .0 .asked .room) in (
-      omega (arith, same, start .pre .0 .asked .small),
-      subst (λ (m : ℕ). start .args .index < ways 1 m) (sym same) (start .pre .1),
-    )
+write-text-requires c κs = search needs
 
 finish-requires : tie.Need-finish-requires
 finish-requires c κs = search needs

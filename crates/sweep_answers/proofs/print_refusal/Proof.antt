@@ -21,7 +21,7 @@ returns : tie.Need-returns
 returns c =
     let at-number = c .before .before .before .before in
     let start = at-number .before .before .before in
-    prints _ _ _ (number-line (start .args .sweeping) (at-number .number .result) (at-number .number .ensures))
+    prints _ _ _ (number-line (start .args .admission) (at-number .number .result) (at-number .number .ensures))
     (c .before .before .print-numbers .ensures)
 
 pub print-refusal-spec : {M : Type 1} → statement M

@@ -9,7 +9,7 @@ use lib.ListN.{length, getD, length-append, length-map, List·getD-append}
 use lib.Seq.{getD-append-seam}
 use Rattle.calculus.specs.Letter.{Letter, byte, owed}
 use Rattle.reading.proofs.Scan.{owed-sum}
-use Rattle.small_terms.specs.Texts.{letters, led, texts, ways}
+use Rattle.small_texts.specs.Texts.{letters, led, texts, ways}
 
 -- ---- the length of the list
 

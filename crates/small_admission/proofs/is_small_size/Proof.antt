@@ -1,11 +1,11 @@
--- `small_terms::is_small_size` meets its contract: its two tests are the definition's. Assumes nothing.
+-- `small_admission::is_small_size` meets its contract: its two tests are the definition's. Assumes nothing.
 use mathlib.Core.Path.{_≡_, sym, ap, _∙_}
 use mathlib.Core.Bool.{Bool, false, _&&_}
 use lib.Dec.{leb}
 use borrow.Author.Tests.{le-leb, lt-leb}
-use Rattle.small_terms.specs.Sweep.{largestSize}
-use Rattle.small_terms.proofs.is_small_size.Statement.{statement}
-use Rattle.small_terms.proofs.is_small_size.Tie as tie
+use Rattle.small_texts.specs.Texts.{largestSize}
+use Rattle.small_admission.proofs.is_small_size.Statement.{statement}
+use Rattle.small_admission.proofs.is_small_size.Tie as tie
 
 returns : tie.Need-returns
 returns c = sym (ap (λ (t : Bool). t && leb (c .before .args .n) largestSize) (le-leb 1 (c .before .args .n) (c .if1 .taken)))

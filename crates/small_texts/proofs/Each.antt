@@ -8,10 +8,10 @@ use mathlib.Core.List.{List·Memᴰ, List·Memᴰ·head, List·Memᴰ·tail, Mem
 use lib.ListN.{length}
 use Rattle.calculus.specs.Term.{Term, text}
 use Rattle.calculus.proofs.PrefixCode.{termOf-text, text-injective}
-use Rattle.small_terms.specs.Small.{Small, Increasing, EachSmall}
-use Rattle.small_terms.specs.Texts.{texts, orJ, termIn, smallTerms}
-use Rattle.small_terms.proofs.Spelled.{spelled, sizes, AllFree, listed, spelt}
-use Rattle.small_terms.proofs.Ordered.{texts-rise, same-list}
+use Rattle.small_texts.specs.Small.{Small, Increasing, EachSmall}
+use Rattle.small_texts.specs.Texts.{texts, orJ, termIn, smallTerms}
+use Rattle.small_texts.proofs.Spelled.{spelled, sizes, AllFree, listed, spelt}
+use Rattle.small_texts.proofs.Ordered.{texts-rise, same-list}
 
 -- the term of a term's text is that term
 pub term-in : (t : Term) → termIn (text t) ≡ t

@@ -6,10 +6,17 @@ use mathlib.Core.Path.{_≡_, refl, sym, _∙_, ap₂, subst}
 use mathlib.Core.Logic.{⊎-elim}
 use mathlib.Core.List.{List, [], _∷_, _++_, map}
 use mathlib.Core.List.{List·Memᴰ, List·Memᴰ·head, List·Memᴰ·tail, List·Memᴰ·not-nil, List·Memᴰ·cases-cons, List·Memᴰ·append-cases}
+use lib.ListN.{length, getD}
 use Rattle.calculus.specs.Letter.{Letter, byte, owed}
-use Rattle.small_terms.specs.Small.{Before, Increasing}
-use Rattle.small_terms.specs.Texts.{letters, led, texts}
-use Rattle.small_terms.proofs.Spelled.{mapped, led-back}
+use Rattle.small_texts.specs.Small.{Before, Increasing}
+use Rattle.small_texts.specs.Texts.{letters, led, texts}
+use Rattle.small_texts.proofs.Spelled.{mapped, led-back}
+
+-- an element by its index stands in the list
+pub member : (ss : List (List ℕ)) (i : ℕ) → i < length ss → List·Memᴰ (getD ss i []) ss
+member [] i h = absurd (omega arith)
+member (s ∷ ss) zero h = List·Memᴰ·head refl
+member (s ∷ ss) (suc i) h = List·Memᴰ·tail (member ss i (omega arith))
 
 -- ---- byte order
 

@@ -13,7 +13,7 @@ use Rattle.calculus.specs.Letter.{Letter, byte, owed}
 use Rattle.calculus.specs.Term.{Term, text, size}
 use Rattle.calculus.specs.BellFree.{BellFree}
 use Rattle.calculus.proofs.PrefixCode.{size-positive}
-use Rattle.small_terms.specs.Texts.{letters, led, texts}
+use Rattle.small_texts.specs.Texts.{letters, led, texts}
 
 -- the texts of terms, one behind the other
 abbrev pub spelled : List Term → List ℕ

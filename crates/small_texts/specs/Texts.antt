@@ -8,6 +8,10 @@ use Rattle.calculus.specs.Letter.{Letter, byte, owed}
 use Rattle.calculus.specs.Term.{Term}
 use Rattle.calculus.specs.Parse.{termOf}
 
+-- the size of the largest small terms
+abbrev pub largestSize : ℕ
+largestSize = 7
+
 -- the letters that are no bells, in the order of their bytes
 abbrev pub letters : List Letter
 letters = Letter.stop ∷ Letter.A ∷ Letter.B ∷ Letter.H ∷ Letter.I ∷ Letter.J ∷ Letter.R ∷ []
@@ -39,6 +43,13 @@ termIn s = orJ (termOf s)
 -- the small terms of that size, in byte order
 unfoldable pub smallTerms : ℕ → List Term
 smallTerms n = map termIn (texts 1 n)
+
+-- the text with that index, from 0, and its term
+abbrev pub textAt : (n i : ℕ) → List ℕ
+textAt n i = getD (texts 1 n) i []
+
+abbrev pub termAt : (n i : ℕ) → Term
+termAt n i = termIn (textAt n i)
 
 -- ---- how many
 

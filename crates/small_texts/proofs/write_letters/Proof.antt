@@ -1,14 +1,14 @@
--- `small_terms::write_text` meets its contract. The invariant: what is written, and what is still to come, are the text (`Written`).
+-- `small_texts::write_letters` meets its contract. The invariant: what is written, and what is still to come, are the text (`Written`).
 -- Assumes nothing.
 use Prim.Native.Nat.{_-_}
 use native.Mathlib.Omega.{arith}
 use mathlib.Core.Path.{refl}
 use lib.ListN.{length}
 use borrow.Author.Needs.{needs}
-use Rattle.small_terms.proofs.Choosing.{arity-most}
-use Rattle.small_terms.proofs.Writing.{Written, nothing-written, can-choose, some-owed, one-written, all-written}
-use Rattle.small_terms.proofs.write_text.Statement.{statement}
-use Rattle.small_terms.proofs.write_text.Tie as tie
+use Rattle.small_texts.proofs.Choosing.{arity-most}
+use Rattle.small_texts.proofs.Letters.{Written, nothing-written, can-choose, some-owed, one-written, all-written}
+use Rattle.small_texts.proofs.write_letters.Statement.{statement}
+use Rattle.small_texts.proofs.write_letters.Tie as tie
 
 abbrev Inv-loop : tie.InvT-loop
 Inv-loop text₀ index owing₀ left₀ at₀ text owing left at = Written (length text₀) index owing left at text
@@ -87,8 +87,8 @@ returns c =
     all-written (length (start .args .text .now)) (start .args .index) (c .before .loop .owing) (c .before .loop .left)
     (c .before .loop .at) (c .before .loop .text) (c .before .loop .inv) (omega (arith, c .loop-test .left))
 
-pub write-text-spec : {M : Type 1} → statement M
-write-text-spec =
+pub write-letters-spec : {M : Type 1} → statement M
+write-letters-spec =
     tie.close
     (tie.spec
     Inv-loop

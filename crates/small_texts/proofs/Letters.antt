@@ -1,4 +1,4 @@
--- The text with an index, letter by letter: the turns of the loop of `write_text`. The invariant: the letters written and, behind them,
+-- The text with an index, letter by letter: the turns of the loop of `write_letters`. The invariant: the letters written and, behind them,
 -- what `left` says of the terms still owed, are the text. Assumes nothing.
 use Prim.Native.Nat.{ℕ, zero, suc, _+_, _-_, _≤_, _<_}
 use native.Mathlib.Numerals.{add-one}
@@ -8,9 +8,9 @@ use mathlib.Core.List.{List, [], _∷_, _++_, append-nil}
 use lib.ListN.{length, getD, take, set, length-set}
 use lib.Seq.{take-suc-set, take-all, append-snoc}
 use Rattle.reading.specs.Arity.{arityOf}
-use Rattle.small_terms.specs.Texts.{texts, ways}
-use Rattle.small_terms.specs.Loop.{Chosen}
-use Rattle.small_terms.proofs.Choosing.{owes}
+use Rattle.small_texts.specs.Texts.{texts, ways}
+use Rattle.small_texts.specs.Writing.{Chosen}
+use Rattle.small_texts.proofs.Choosing.{owes}
 
 -- `Written n index owing left at text`: the first `at` letters of the text with that index are written
 pub record Written (n index owing left at : ℕ) (text : List ℕ) : Type 0 where

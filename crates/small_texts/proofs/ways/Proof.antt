@@ -1,10 +1,10 @@
--- `small_terms::ways` meets its contract: a number of the table, all of which is right. Assumes nothing.
+-- `small_texts::ways` meets its contract: a number of the table, all of which is right. Assumes nothing.
 use native.Mathlib.Omega.{arith}
 use mathlib.Core.Path.{sym}
-use Rattle.small_terms.proofs.HowMany.{ways-none, table-at}
+use Rattle.small_texts.proofs.HowMany.{ways-none, table-at}
 use borrow.Author.Needs.{needs}
-use Rattle.small_terms.proofs.ways.Statement.{statement}
-use Rattle.small_terms.proofs.ways.Tie as tie
+use Rattle.small_texts.proofs.ways.Statement.{statement}
+use Rattle.small_texts.proofs.ways.Tie as tie
 
 returns : tie.Need-returns
 returns c = sym (ways-none (c .before .args .n) (c .before .args .k) (c .if1 .taken))

@@ -11,9 +11,9 @@ use lib.Seq.{drop-cons}
 use Rattle.calculus.specs.Letter.{Letter, byte, owed}
 use Rattle.reading.specs.Arity.{arityOf}
 use Rattle.reading.proofs.Scan.{owed-sum, arity-byte, arity-few}
-use Rattle.small_terms.specs.Texts.{letters, letterAt, led, texts, ways}
-use Rattle.small_terms.specs.Loop.{Chosen}
-use Rattle.small_terms.proofs.HowMany.{summed, ways-summed, length-texts, ways-none}
+use Rattle.small_texts.specs.Texts.{letters, letterAt, led, texts, ways}
+use Rattle.small_texts.specs.Writing.{Chosen}
+use Rattle.small_texts.proofs.HowMany.{summed, ways-summed, length-texts, ways-none}
 
 -- an element of a list with a byte in front of each, or of the list behind it
 here : (b : ℕ) (ss us : List (List ℕ)) (i : ℕ) → i < length ss → getD (map (λ s. b ∷ s) ss ++ us) i [] ≡ b ∷ getD ss i []

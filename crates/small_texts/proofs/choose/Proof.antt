@@ -1,11 +1,11 @@
--- `small_terms::choose` meets its contract. The invariant: the first letter is none of those tried (`Untried`). Assumes nothing.
+-- `small_texts::choose` meets its contract. The invariant: the first letter is none of those tried (`Untried`). Assumes nothing.
 use Prim.Native.Nat.{ℕ, _+_, _-_}
 use native.Mathlib.Omega.{arith}
 use mathlib.Core.Path.{sym, subst}
 use borrow.Author.Needs.{needs}
-use Rattle.small_terms.proofs.Choosing.{Untried, owes, arity-most, untried-start, found, passed, last-found}
-use Rattle.small_terms.proofs.choose.Statement.{statement}
-use Rattle.small_terms.proofs.choose.Tie as tie
+use Rattle.small_texts.proofs.Choosing.{Untried, owes, arity-most, untried-start, found, passed, last-found}
+use Rattle.small_texts.proofs.choose.Statement.{statement}
+use Rattle.small_texts.proofs.choose.Tie as tie
 
 abbrev Inv-loop : tie.InvT-loop
 Inv-loop owing rest index others left₀ i₀ left i = Untried owing rest index i left
