@@ -36,7 +36,9 @@ use Rattle.rows.specs.RingsAs.{RingsAs}
 use Rattle.rows.proofs.Exactly.{rings-exactly}
 use Rattle.small_admission.specs.Admission.{Refused}
 use Rattle.small_terms.specs.Sweep.{SweepsAs}
+use Rattle.small_terms.specs.Dearest.{FindsAs}
 use Rattle.small_terms.proofs.Sweeps.{sweeps-exactly}
+use Rattle.small_terms.proofs.Dearer.{finds-exactly}
 use Rattle.derivation_files.specs.Checks.{ChecksAs}
 use Rattle.derivation_files.proofs.Listed.{checking-refused}
 use Rattle.derivation_files.proofs.Files.{accepted-exactly, claim-unique, claimed, accepted-derivable}
@@ -180,6 +182,9 @@ small-refused (Refused.area-too-short s f a h) =
 sweep-refused : {n fuel area number place : ℕ} → SweepsAs n fuel area (Reply.refused number place) → SmallTermsRefuse number place
 sweep-refused (SweepsAs.refuses r) = small-refused r
 
+dearest-refused : {n fuel area number place : ℕ} → FindsAs n fuel area (Reply.refused number place) → SmallTermsRefuse number place
+dearest-refused (FindsAs.refuses r) = small-refused r
+
 -- the area of a run that is not refused holds the text of the term reached at its start
 reached-text :
     {area work area′ work′ : List ℕ} {len fuel n s : ℕ} {k : List ℕ} {o : Outcome} (r : RanTo area len work fuel o n k s area′ work′) →
@@ -221,6 +226,7 @@ demands =
       joining-refuses = λ f g area area′ number place e. join-refused (joins-exactly f g area area′ (Reply.refused number place) .0 e);
       rows-refuse = λ bytes n table table′ number place e. rows-refused (rings-exactly bytes n table table′ (Reply.refused number place) .0 e);
       sweep-refuses = λ n fuel area number place e. sweep-refused (sweeps-exactly n fuel area (Reply.refused number place) .0 e);
+      dearest-refuses = λ n fuel area number place e. dearest-refused (finds-exactly n fuel area (Reply.refused number place) .0 e);
       checking-refuses = checking-refused;
       matching-refuses =
           λ first second number line e.
@@ -242,6 +248,7 @@ demands =
       joins = joins-exactly;
       rings = rings-exactly;
       sweeps = sweeps-exactly;
+      finds = finds-exactly;
       checks = λ file reply. (λ e. subst (ChecksAs file) e (checks-as file), λ c. sym (checks-as-only file reply c));
       accepted-exactly = accepted-exactly;
       claimed = λ file n. claimed;

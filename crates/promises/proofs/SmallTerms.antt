@@ -1,7 +1,7 @@
--- What a sweep says of small terms: by the laws of `small_terms`. Assumes nothing.
+-- What a sweep and the dearest term say of small terms: by the laws of `small_terms`. Assumes nothing.
 use Prim.Native.Nat.{ℕ}
 use mathlib.Core.Path.{_≡_, refl, sym, _∙_, ap, ap₂}
-use mathlib.Core.List.{List, [], _∷_, map, List·Memᴰ, Memᴰ·map}
+use mathlib.Core.List.{List, [], _∷_, map, Memᴰ·map}
 use lib.ListN.{length}
 use Rattle.calculus.specs.Term.{Term, text}
 use Rattle.calculus.specs.Run.{outcome}
@@ -13,6 +13,8 @@ use Rattle.small_texts.proofs.Ordered.{before-irreflexive}
 use Rattle.small_texts.proofs.Each.{each-small, each-unique}
 use Rattle.small_texts.proofs.Indexed.{length-small}
 use Rattle.small_terms.proofs.Sweeps.{never-none, all-counted, steps-few, each-finishes}
+use Rattle.small_terms.proofs.Dearer.{gives-dearest, one-dearest}
+use Rattle.small_terms.proofs.Fuel.{fuel-enough, fuel-needed}
 use Rattle.promises.specs.SmallTerms.{SmallTermsSay}
 
 -- terms whose texts are in byte order are all different
@@ -38,4 +40,8 @@ small-terms-say =
           λ n fuel area f s o k e all t small r runs.
           ap outcome (sym (runs-run runs)) ∙ each-finishes n fuel area f s o k e all t (each-small n .complete t small);
       steps-few = steps-few;
+      some-dearest = λ n fuel area sized. let (t, k, e, d) = gives-dearest n fuel area sized in (t, k, d);
+      one-dearest = λ n fuel area t u k m. one-dearest;
+      fuel-enough = λ n fuel area t u k m d small f. fuel-enough d u m small f;
+      fuel-needed = λ n fuel area t k less m d h. fuel-needed d less m h;
     }

@@ -34,6 +34,7 @@ use Rattle.joining.specs.Joins.{JoinsAs}
 use Rattle.rows.specs.Ringing as ringing
 use Rattle.rows.specs.RingsAs.{RingsAs}
 use Rattle.small_terms.specs.Sweep.{Swept, sweepOf, SweepsAs}
+use Rattle.small_terms.specs.Dearest.{Dear, dearestOf, FindsAs}
 use Rattle.derivation_files.specs.Checking.{checkingOf}
 use Rattle.derivation_files.specs.Checks.{ChecksAs}
 use Rattle.derivation_files.specs.Accepted.{Accepted, Claims}
@@ -140,6 +141,7 @@ pub record Demands : Type 0 where
       ringing.ringingOf bytes n table ≡ ringing.After.after (Reply.refused number place) table′ →
       RowsRefuse bytes number place × (table′ ≡ table)
   pub sweep-refuses : (n fuel area number place : ℕ) → sweepOf n fuel area ≡ Reply.refused number place → SmallTermsRefuse number place
+  pub dearest-refuses : (n fuel area number place : ℕ) → dearestOf n fuel area ≡ Reply.refused number place → SmallTermsRefuse number place
   pub checking-refuses : (file : List ℕ) (number line : ℕ) → checkingOf file ≡ Reply.refused number line → CheckRefuses file number line
   pub matching-refuses :
       (first second : List ℕ) (number line : ℕ) →
@@ -188,6 +190,8 @@ pub record Demands : Type 0 where
       (ringing.ringingOf bytes n table ≡ ringing.After.after reply table′) ↔ RingsAs bytes n table reply table′
   -- and with sweeps: the run of every small term, and what the runs come to
   pub sweeps : (n fuel area : ℕ) (reply : Reply Swept) → (sweepOf n fuel area ≡ reply) ↔ SweepsAs n fuel area reply
+  -- and with the dearest small term: its run finishes, none makes more steps, and no earlier one as many
+  pub finds : (n fuel area : ℕ) (reply : Reply Dear) → (dearestOf n fuel area ≡ reply) ↔ FindsAs n fuel area reply
   -- checking's reply is the one that its relation gives: the first bad line, and in it the first number
   pub checks : (file : List ℕ) (reply : Reply ℕ) → (checkingOf file ≡ reply) ↔ ChecksAs file reply
   pub accepted-exactly : (file : List ℕ) (n : ℕ) → (checkingOf file ≡ Reply.answered n) ↔ Accepted file n

@@ -1,8 +1,8 @@
--- What a sweep says of small terms (REQUIREMENTS, Small terms), beside the demands: which terms are run, how many they are, and what the
--- numbers of any answer are. `small-terms-say` of proofs/SmallTerms.antt is the proof.
-use Prim.Native.Nat.{ℕ, _+_, _*_, _≤_}
+-- What a sweep and the dearest term say of small terms (REQUIREMENTS, Small terms), beside the demands: which terms are run, how many they
+-- are, what the numbers of any answer are, and which fuel is enough. `small-terms-say` of proofs/SmallTerms.antt is the proof.
+use Prim.Native.Nat.{ℕ, _+_, _*_, _≤_, _<_}
 use mathlib.Core.Path.{_≡_}
-use mathlib.Core.List.{List, [], _∷_, map, List·Memᴰ}
+use mathlib.Core.List.{List, [], _∷_, map}
 use lib.ListN.{length}
 use Rattle.calculus.specs.Term.{Term}
 use Rattle.calculus.specs.Run.{Outcome, Run, Runs, outcome}
@@ -11,6 +11,7 @@ use Rattle.repeats.specs.Repeats.{NoRepeats}
 use Rattle.small_texts.specs.Small.{Small, EachSmall}
 use Rattle.small_texts.specs.Texts.{smallTerms}
 use Rattle.small_terms.specs.Sweep.{Swept, sweepOf}
+use Rattle.small_terms.specs.Dearest.{Finishes, Dearest}
 
 -- `Answers n fuel area f s r k`: the sweep is not refused, and those are its four numbers
 abbrev pub Answers : (n fuel area finished spent no-room steps : ℕ) → Type 0
@@ -41,3 +42,14 @@ pub record SmallTermsSay : Type 0 where
   pub steps-few :
       (n fuel area finished spent no-room steps : ℕ) → Answers n fuel area finished spent no-room steps →
       steps ≤ fuel * length (smallTerms n)
+  -- of every size from 1 on there is a dearest small term, with any fuel and in any area
+  pub some-dearest : (n fuel area : ℕ) → 1 ≤ n → (t : Term) × (k : ℕ) × Dearest n fuel area t k
+  -- and only one
+  pub one-dearest :
+      (n fuel area : ℕ) (t u : Term) (k m : ℕ) → Dearest n fuel area t k → Dearest n fuel area u m → (t ≡ u) × (k ≡ m)
+  -- its steps are fuel enough for every small term of that size that finishes, in as many steps as before
+  pub fuel-enough :
+      (n fuel area : ℕ) (t u : Term) (k m : ℕ) → Dearest n fuel area t k → Small n u → Finishes fuel area u m → Finishes k area u m
+  -- and with less fuel it does not finish itself
+  pub fuel-needed :
+      (n fuel area : ℕ) (t : Term) (k less m : ℕ) → Dearest n fuel area t k → less < k → ¬ Finishes less area t m

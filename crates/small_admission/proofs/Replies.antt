@@ -1,6 +1,6 @@
 -- From what `admit` said to the replies: a refusal is passed on, and else the numbers are those of a call that is not refused. Carried by
 -- `decided`. Assumes nothing.
-use Prim.Native.Nat.{ℕ, _≤_, _<_}
+use Prim.Native.Nat.{ℕ}
 use native.Mathlib.Omega.{arith}
 use mathlib.Core.Path.{_≡_, refl, sym, _∙_, ap}
 use mathlib.Core.List.{[], _∷_}

@@ -2,4 +2,8 @@ pub mod Running
 pub mod Summing
 pub mod Finished
 pub mod Sweeps
+pub mod Leading
+pub mod Dearer
+pub mod Found
+pub mod Fuel
 pub mod Examples

@@ -3,18 +3,18 @@
 use Prim.Native.Nat.{ℕ, _≤_, _<_}
 use native.Mathlib.Decide.{decLe}
 use native.Mathlib.Omega.{arith}
-use mathlib.Core.Path.{_≡_, refl, sym, _∙_, ap}
+use mathlib.Core.Path.{_≡_, sym, _∙_, ap}
 use mathlib.Core.Bool.{Bool, cond}
 use mathlib.Core.List.{List, []}
 use lib.ListN.{length, getD, length-map, List·getD-map}
 use borrow.Author.Tests.{le-leb, lt-leb, lt-ltb, le-ltb}
 use Rattle.calculus.specs.Term.{Term, text}
 use Rattle.calculus.proofs.PrefixCode.{length-text}
-use Rattle.small_texts.specs.Small.{Small}
+use Rattle.small_texts.specs.Small.{Small, Before}
 use Rattle.small_texts.specs.Texts.{largestSize, texts, textAt, termIn, termAt, smallTerms, ways}
 use Rattle.small_texts.specs.Writing.{howMany, written}
-use Rattle.small_texts.proofs.Ordered.{member}
-use Rattle.small_texts.proofs.Each.{term-in, listed-small}
+use Rattle.small_texts.proofs.Ordered.{member, index-of, at-earlier, texts-rise}
+use Rattle.small_texts.proofs.Each.{term-in, small-listed, listed-small}
 use Rattle.small_texts.proofs.HowMany.{length-texts}
 
 -- ---- the text of a small term
@@ -31,6 +31,16 @@ module _ (n i : ℕ) (inside : i < ways 1 n) where
   -- and has n letters
   pub text-long : length (textAt n i) ≡ n
   text-long = let (t, e, h) = is-text in ap length e ∙ length-text t ∙ h .sized
+
+-- and each small term has an index
+pub has-place : (n : ℕ) (t : Term) → Small n t → (i : ℕ) × (i < ways 1 n) × (text t ≡ textAt n i)
+has-place n t small =
+    let (i, h, e) = index-of (texts 1 n) (text t) (small-listed n t small) in
+    (i, omega (arith, length-texts n 1), e)
+
+-- with an earlier text a smaller one
+pub earlier-place : (n i j : ℕ) → i < ways 1 n → j < ways 1 n → Before (textAt n i) (textAt n j) → i < j
+earlier-place n i j h k = at-earlier (texts-rise n 1) i j (omega (arith, length-texts n 1)) (omega (arith, length-texts n 1))
 
 -- how many small terms there are
 pub length-small : (n : ℕ) → length (smallTerms n) ≡ ways 1 n

@@ -1,6 +1,7 @@
 -- The texts of small terms stand in byte order; and lists in byte order that hold the same are the same. Carried by an induction on the
 -- letters for the one, and on the lists for the other. Assumes nothing.
-use Prim.Native.Nat.{ℕ, zero, suc, _<_}
+use Prim.Native.Nat.{ℕ, zero, suc, _≤_, _<_}
+use native.Mathlib.Decide.{decLe}
 use native.Mathlib.Omega.{arith}
 use mathlib.Core.Path.{_≡_, refl, sym, _∙_, ap₂, subst}
 use mathlib.Core.Logic.{⊎-elim}
@@ -18,6 +19,11 @@ member [] i h = absurd (omega arith)
 member (s ∷ ss) zero h = List·Memᴰ·head refl
 member (s ∷ ss) (suc i) h = List·Memᴰ·tail (member ss i (omega arith))
 
+-- and what stands in it has an index
+pub index-of : (ss : List (List ℕ)) (s : List ℕ) → List·Memᴰ s ss → (i : ℕ) × (i < length ss) × (s ≡ getD ss i [])
+index-of (u ∷ ss) s (List·Memᴰ·head e) = (0, omega arith, e)
+index-of (u ∷ ss) s (List·Memᴰ·tail m) = let (i, h, e) = index-of ss s m in (suc i, omega arith, e)
+
 -- ---- byte order
 
 -- of two, one at most comes before the other
@@ -31,6 +37,18 @@ before-asymmetric (Before.later e h) (Before.later f j) = before-asymmetric h j
 -- so nothing comes before itself
 pub before-irreflexive : {s : List ℕ} → Before s s → ⊥
 before-irreflexive h = before-asymmetric h h
+
+-- and of two that differ one comes before the other
+pub before-total : (s u : List ℕ) → ¬ Before s u → ¬ Before u s → s ≡ u
+before-total [] [] h k = refl
+before-total [] (b ∷ u) h k = absurd (h Before.ended)
+before-total (a ∷ s) [] h k = absurd (k Before.ended)
+before-total (a ∷ s) (b ∷ u) h k =
+    let below : ¬ a < b = λ p. h (Before.less p) in
+    let above : ¬ b < a = λ p. k (Before.less p) in
+    let same : a ≡ b = omega (arith, below, above) in
+    ap₂ (λ (x : ℕ) (xs : List ℕ). x ∷ xs) same
+    (before-total s u (λ p. h (Before.later same p)) (λ p. k (Before.later (sym same) p)))
 
 -- ---- the texts
 
@@ -96,6 +114,30 @@ texts-rise zero zero = Increasing.first (λ u m. absurd (List·Memᴰ·not-nil m
 texts-rise zero (suc k) = Increasing.empty
 texts-rise (suc n) zero = Increasing.empty
 texts-rise (suc n) (suc k) = led-rises letters (λ (l : Letter). texts (owed l k) n) letters-rise (λ l. texts-rise n (owed l k))
+
+-- ---- by their indices
+
+-- of an increasing list, an element comes before those behind it
+pub at-later : {ss : List (List ℕ)} → Increasing ss → (i j : ℕ) → i < j → j < length ss → Before (getD ss i []) (getD ss j [])
+at-later Increasing.empty i j h k = absurd (omega arith)
+at-later (Increasing.first {s = s} {others = ss} before rest) i zero h k = absurd (omega arith)
+at-later (Increasing.first {s = s} {others = ss} before rest) zero (suc j) h k = before (getD ss j []) (member ss j (omega arith))
+at-later (Increasing.first {s = s} {others = ss} before rest) (suc i) (suc j) h k = at-later rest i j (omega arith) (omega arith)
+
+-- so one that comes before another has the smaller index
+pub at-earlier :
+    {ss : List (List ℕ)} → Increasing ss → (i j : ℕ) → i < length ss → j < length ss → Before (getD ss i []) (getD ss j []) → i < j
+at-earlier {ss} rises i j inside within h = go (decLe j i)
+  where
+    go : Dec (j ≤ i) → i < j
+    go (no less) = omega arith
+    go (yes most) = same (decLe i j)
+      where
+        same : Dec (i ≤ j) → i < j
+        same (yes least) =
+            let e : i ≡ j = omega arith in
+            absurd (before-irreflexive (subst (λ (k : ℕ). Before (getD ss k []) (getD ss j [])) e h))
+        same (no more) = absurd (before-asymmetric h (at-later rises j i (omega arith) inside))
 
 -- ---- the same list
 

@@ -1,9 +1,8 @@
 -- Numbers that are capped, as a line has them, are refused as the numbers are, or are the numbers: every limit is below the cap. Carried by
 -- `decided`. Assumes nothing.
-use Prim.Native.Nat.{ℕ, _≤_, _<_, min}
+use Prim.Native.Nat.{ℕ, min}
 use native.Mathlib.Omega.{arith}
 use mathlib.Core.Path.{_≡_}
-use Rattle.calculus.specs.Limits.{areaLimit, fuelLimit}
 use Rattle.reading.specs.Reply.{Reply}
 use Rattle.line_states.specs.Fed.{numberCap}
 use Rattle.small_admission.specs.Admission.{SmallSize, admitted, Refused}

@@ -6,8 +6,8 @@ use lib.Seq.{length-take-le}
 use borrow.Author.Needs.{needs}
 use Rattle.calculus.specs.Limits.{areaLimit}
 use Rattle.small_texts.specs.Texts.{ways as waysOf}
-use Rattle.small_terms.specs.Answer.{sweptIn}
-use Rattle.small_terms.specs.Loop.{Summed}
+use Rattle.small_terms.specs.Answer.{sweptIn, leadIn}
+use Rattle.small_terms.specs.Loop.{Summed, Leads}
 use Rattle.small_terms.proofs.Running.{cut-ready}
 use Rattle.small_terms.proofs.run_in.Statement.{statement}
 use Rattle.small_terms.proofs.run_in.Tie as tie
@@ -37,11 +37,13 @@ run-all-requires c κs =
 
 returns : tie.Need-returns
 returns c =
-    let came = c .before .before in
-    let start = came .before .before .before in
-    let h : start .args .area ≤ areaLimit = start .pre .short in
-    subst (λ (a : ℕ). Summed (start .args .n) (start .args .fuel) a (waysOf 1 (start .args .n)) (sweptIn (came .run-all .result)))
-    (length-take-le (start .args .area) (replicate areaLimit 0) h) (came .run-all .ensures)
+    let came = c .before .before .run-all in
+    let a = c .before .before .before .before .before .args in
+    let h : a .area ≤ areaLimit = c .before .before .before .before .before .pre .short in
+    let long = length-take-le {A = ℕ} (a .area) (replicate areaLimit 0) h in (
+      subst (λ (m : ℕ). Summed (a .n) (a .fuel) m (waysOf 1 (a .n)) (sweptIn (came .result .tally))) long (came .ensures .0),
+      subst (λ (m : ℕ). Leads (a .n) (a .fuel) m (waysOf 1 (a .n)) (leadIn (came .result .lead))) long (came .ensures .1),
+    )
 
 pub run-in-spec : {M : Type 1} → statement M
 run-in-spec =

@@ -13,15 +13,24 @@ enum-told : tie.Need-enum-told
 enum-told c = search needs
 
 returns : tie.Need-returns
-returns c = sweep-refused (c .before .before .args .n) (c .before .before .args .fuel) (c .before .before .args .area) (c .before .admit .result) (c .before .admit .ensures) (c .match .keys2)
+returns c =
+    let start = c .before .before in
+    sweep-refused (start .args .n) (start .args .fuel) (start .args .area) (c .before .admit .result) (c .before .admit .ensures)
+    (c .match .keys2)
 
 run-in-requires : tie.Need-run-in-requires
-run-in-requires c κs = said-admitted (c .before .before .before .args .n) (c .before .before .before .args .fuel) (c .before .before .before .args .area) (c .before .before .admit .result) (c .before .before .admit .ensures) (c .before .match .keys1)
+run-in-requires c κs =
+    let start = c .before .before .before in
+    said-admitted (start .args .n) (start .args .fuel) (start .args .area) (c .before .before .admit .result)
+    (c .before .before .admit .ensures) (c .before .match .keys1)
 
 returns-2 : tie.Need-returns-2
 returns-2 c =
-    sweep-answered (c .before .before .before .before .args .n) (c .before .before .before .before .args .fuel) (c .before .before .before .before .args .area) (c .before .before .before .admit .result) (c .before .before .before .admit .ensures) (c .before .before .match .keys1)
-    (sweptIn (c .run-in .result)) (c .run-in .ensures)
+    let at-match = c .before .before .before in
+    let at-admit = at-match .before in
+    let start = at-admit .before in
+    sweep-answered (start .args .n) (start .args .fuel) (start .args .area) (at-admit .admit .result) (at-admit .admit .ensures)
+    (at-match .match .keys1) (sweptIn (c .before .run-in .result .tally)) (c .before .run-in .ensures .0)
 
 pub sweep-spec : {M : Type 1} → statement M
 sweep-spec = tie.close (tie.spec admit-requires enum-told returns run-in-requires returns-2)
