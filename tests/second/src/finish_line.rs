@@ -1,4 +1,4 @@
-//! Three of the four programs: what each prints for its input; what sweep prints has a file of its own.
+//! Three of the five programs: what each prints for its input; what sweep and dearest print has a file each.
 
 use crate::checking;
 use crate::counting::{finish_by_rule, Counts};

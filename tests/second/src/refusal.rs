@@ -30,7 +30,7 @@ pub const NO_CHAIN: u8 = 20;
 pub const NO_TABLE: u8 = 21;
 pub const BAD_ROW: u8 = 22;
 pub const JOIN_TOO_LARGE: u8 = 31;
-/// The input of sweep has another shape, or there is no sweep of that size.
+/// The input of sweep or dearest has another shape, or there are no small terms of that size.
 pub const BAD_SWEEP: u8 = 32;
 
 /// The refusal `number` at `place`.
