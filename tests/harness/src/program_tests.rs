@@ -1,4 +1,4 @@
-//! The four programs, each input given to a process of its own.
+//! The five programs, each input given to a process of its own.
 
 use crate::check_tests::{within_limits, LAYOUTS};
 use crate::damage::damaged;
@@ -6,6 +6,7 @@ use crate::derivations::{file_of, some};
 use crate::random::Random;
 use crate::subject::{Programs, Second};
 use crate::suite::{equal, equal_bytes, shown, Outcome, Suite};
+use crate::table::dearest::dearest_rows;
 use crate::table::programs::{check_rows, finish_rows, mix_rows, Row};
 use crate::table::sweeping::sweep_rows;
 use crate::terms::random_of_size;
@@ -68,6 +69,10 @@ impl Programs for &Processes {
 
     fn sweep(&self, input: &[u8]) -> Result<Vec<u8>, String> {
         self.run("sweep", input, usize::MAX, Duration::ZERO)
+    }
+
+    fn dearest(&self, input: &[u8]) -> Result<Vec<u8>, String> {
+        self.run("dearest", input, usize::MAX, Duration::ZERO)
     }
 }
 
@@ -206,7 +211,7 @@ fn complains(program: &Path, redirection: &str, input: &[u8], complaint: &str) -
 pub fn failing(suite: &mut Suite, label: &str, program: &str, processes: &Processes) {
     let inputs: [&[u8]; 2] = match program {
         "finish" | "rule_mix" => [b"6\t12\t.BII.JRJ\n", b"x"],
-        "sweep" => [b"3\t10\t20\n", b"x"],
+        "sweep" | "dearest" => [b"3\t10\t20\n", b"x"],
         _ => [b"1\tI\t1\tI\t-\t-\n", b"x"],
     };
     let streams = [
@@ -229,6 +234,7 @@ fn rows_of(program: &str) -> Vec<Row> {
         "finish" => finish_rows(),
         "rule_mix" => mix_rows(),
         "sweep" => sweep_rows(),
+        "dearest" => dearest_rows(),
         _ => check_rows(),
     }
 }

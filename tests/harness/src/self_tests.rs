@@ -11,9 +11,9 @@ use crate::terms::{all_of_size, random_of_size, texts_of_size, ALL_BELLS, BELLS,
 use crate::wrong_batch::Slip;
 use crate::wrong_batches::Batches;
 use crate::{
-    check_tests, compare_tests, count_tests, deep, end_tests, finish_tests, huge, join_laws, join_tests,
-    machine_rules, machine_tests, match_tests, program_tests, read_tests, result_tests, row_laws, row_tests,
-    small_tests, step_tests, sweep_tests,
+    check_tests, compare_tests, count_tests, dearest_tests, deep, end_tests, finish_tests, huge, join_laws,
+    join_tests, machine_rules, machine_tests, match_tests, program_tests, read_tests, result_tests, row_laws,
+    row_tests, small_tests, step_tests, sweep_tests,
 };
 use second::anywhere::{nearest_normal, successors, Nearest};
 use second::checking::check;
@@ -47,7 +47,8 @@ fn numbers_of_terms() -> Outcome {
 /// The terms of size 3 without bells, in byte order.
 const OF_SIZE_3: &str = ".II .IJ .JI .JJ AII AIJ AJI AJJ BII BIJ BJI BJJ HII HIJ HJI HJJ RRI RRJ";
 
-/// The terms that sweep runs come in byte order, as many as there are, and are those that letters before texts make.
+/// The terms that sweep and dearest run come in byte order, as many as there are, and are those that letters before
+/// texts make.
 fn small_terms_in_order() -> Outcome {
     let of_size_3: Vec<Vec<u8>> = OF_SIZE_3.split(' ').map(|text| text.as_bytes().to_vec()).collect();
     equal("of size 3", small_terms::texts_of_size(3), of_size_3)?;
@@ -269,7 +270,8 @@ fn other_orders(suite: &mut Suite) {
     suite.test("self: .B.AIHJJAIHJJI.II has no result at the leftmost full stop", leftmost_never_ends);
 }
 
-/// Sweeps come last: bugs in anything else are seen before them, and those in sweeps by these alone.
+/// What runs all small terms comes last: bugs in anything else are seen before, and those in sweep and dearest by the
+/// tests of either alone.
 fn sweeps(suite: &mut Suite) {
     let (plain, fast) = (Second::<Plain>::new(), Second::<Machine>::new());
     suite.test("self: the small terms that sweep runs, in byte order", small_terms_in_order);
@@ -278,6 +280,11 @@ fn sweeps(suite: &mut Suite) {
     sweep_tests::made(suite, "plain", plain, TERMS.len());
     sweep_tests::made(suite, "fast", fast, TERMS.len());
     sweep_tests::predicted(suite, "fast", fast);
+    dearest_tests::known(suite, "plain", plain);
+    dearest_tests::known(suite, "fast", fast);
+    dearest_tests::made(suite, "plain", plain, TERMS.len());
+    dearest_tests::made(suite, "fast", fast, TERMS.len());
+    dearest_tests::predicted(suite, "fast", fast);
 }
 
 pub fn all(suite: &mut Suite) {

@@ -4,6 +4,7 @@ use crate::reply::*;
 use second::checking;
 use second::comparing::{self, Lent};
 use second::counting;
+use second::dearest;
 use second::finish_line;
 use second::finishing;
 use second::joining;
@@ -25,12 +26,13 @@ pub trait Controller {
     fn match_claims(&self, first: &[u8], second: &[u8]) -> u64;
 }
 
-/// The four programs: what each prints for its input.
+/// The five programs: what each prints for its input.
 pub trait Programs {
     fn finish(&self, input: &[u8]) -> Result<Vec<u8>, String>;
     fn rule_mix(&self, input: &[u8]) -> Result<Vec<u8>, String>;
     fn check_file(&self, input: &[u8]) -> Result<Vec<u8>, String>;
     fn sweep(&self, input: &[u8]) -> Result<Vec<u8>, String>;
+    fn dearest(&self, input: &[u8]) -> Result<Vec<u8>, String>;
 }
 
 /// The second implementation, with one of its two reducers.
@@ -112,5 +114,9 @@ impl<R: Reducer> Programs for Second<R> {
 
     fn sweep(&self, input: &[u8]) -> Result<Vec<u8>, String> {
         Ok(sweeping::sweep_program::<R>(input))
+    }
+
+    fn dearest(&self, input: &[u8]) -> Result<Vec<u8>, String> {
+        Ok(dearest::dearest_program::<R>(input))
     }
 }

@@ -1,18 +1,13 @@
 //! The program sweep: its rows, what its lines add up to, and what the second implementation predicts.
 
-use crate::damage::damaged;
 use crate::program_tests::{printed, with_line_feed};
-use crate::random::Random;
+use crate::small_lines::{by_finish, line, random_lines, short_inputs, small_runs};
 use crate::subject::{Programs, Second};
 use crate::suite::{equal, shown, Outcome, Suite};
 use crate::table::sweeping::{sweep_rows, TERMS};
 use crate::terms::{texts_of_size, NO_BELLS};
+use second::finishing::Outcome as End;
 use second::plain::Plain;
-
-/// A line of the program's shape.
-fn line(n: impl ToString, fuel: impl ToString, area: impl ToString) -> Vec<u8> {
-    format!("{}\t{}\t{}\n", n.to_string(), fuel.to_string(), area.to_string()).into_bytes()
-}
 
 /// The seven numbers that are printed for a sweep, in their order.
 #[derive(Clone, Copy)]
@@ -35,7 +30,7 @@ pub fn columns(printed: &[u8]) -> Option<Columns> {
 }
 
 /// The numbers that the subject prints for a sweep.
-fn swept(subject: &dyn Programs, n: usize, fuel: u64, area: usize) -> Result<Columns, String> {
+pub fn swept(subject: &dyn Programs, n: usize, fuel: u64, area: usize) -> Result<Columns, String> {
     let printed = subject.sweep(&line(n, fuel, area))?;
     columns(&printed).ok_or(format!("{n}, {fuel}, {area} prints {}", shown(&printed)))
 }
@@ -50,26 +45,17 @@ fn adds_up(subject: &dyn Programs, n: usize, fuel: u64, area: usize) -> Outcome 
     equal(&format!("{what}: remainder below the finished runs"), told.remainder < told.finished, true)
 }
 
-/// The outcome and the count in the finishing program's line.
-fn outcome_and_count(printed: &[u8]) -> Option<(&str, u64)> {
-    let mut fields = std::str::from_utf8(printed).ok()?.split('\t');
-    Some((fields.next()?, fields.next()?.parse().ok()?))
-}
-
 /// The sweep's first five columns are what the finishing program says of each term, added up.
 fn beside_finish(subject: &dyn Programs, n: usize, fuel: u64, area: usize) -> Outcome {
     let mut wanted = [n as u64, 0, 0, 0, 0];
     for text in texts_of_size(n, NO_BELLS) {
-        let input = [format!("{fuel}\t{area}\t").as_bytes(), &text, b"\n"].concat();
-        let printed = subject.finish(&input)?;
-        match outcome_and_count(&printed) {
-            Some(("finished", count)) => {
+        match by_finish(subject, fuel, area, &text)? {
+            (End::Finished, count) => {
                 wanted[1] += 1;
                 wanted[4] += count;
             }
-            Some(("spent", _)) => wanted[2] += 1,
-            Some(("no room", _)) => wanted[3] += 1,
-            _ => return Err(format!("{} prints {}", shown(&input), shown(&printed))),
+            (End::Spent, _) => wanted[2] += 1,
+            (End::NoRoom, _) => wanted[3] += 1,
         }
     }
     let told = swept(subject, n, fuel, area)?;
@@ -80,50 +66,6 @@ fn beside_finish(subject: &dyn Programs, n: usize, fuel: u64, area: usize) -> Ou
 /// Does the subject print what the plain reducer predicts?
 fn agree(subject: &dyn Programs, input: &[u8]) -> Outcome {
     printed(subject.sweep(input), &Second::<Plain>::new().sweep(input)?, input)
-}
-
-/// More steps than any small term makes, and more room than it takes.
-const FUELS: u64 = 8;
-const ROOMS: usize = 6;
-
-/// Fuels and areas about every limit.
-const FUEL_LIMITS: [&str; 8] = ["9", "10", "1000", "999999", "1000000", "1000001", "4294967296", "01"];
-const AREA_LIMITS: [&str; 8] = ["0", "1000", "16383", "16384", "16385", "65536", "18446744073709551626", "07"];
-
-fn random_line(random: &mut Random) -> Vec<u8> {
-    let n = if random.once_in(12) { *random.pick(&[0, 8, 9, 10]) } else { random.between(1, 7) };
-    let fuel = match random.once_in(3) {
-        true => random.pick(&FUEL_LIMITS).to_string(),
-        false => random.below(FUELS as usize).to_string(),
-    };
-    let area = match random.once_in(3) {
-        true => random.pick(&AREA_LIMITS).to_string(),
-        false => (n + random.below(ROOMS)).saturating_sub(random.below(2)).to_string(),
-    };
-    line(n, fuel, area)
-}
-
-/// Random lines, and as many damaged ones.
-fn random_lines(subject: &dyn Programs) -> Outcome {
-    let mut random = Random::new(91);
-    for _ in 0..150 {
-        let line = random_line(&mut random);
-        agree(subject, &line)?;
-        agree(subject, &damaged(&mut random, &line, b"\t\n01357 +-\rJ"))?;
-    }
-    Ok(())
-}
-
-/// Short inputs of the bytes that lines are made of.
-fn short_inputs(subject: &dyn Programs) -> Outcome {
-    let mut random = Random::new(92);
-    for _ in 0..300 {
-        let length = random.below(8);
-        let mut input: Vec<u8> = (0..length).map(|_| *random.pick(b"\t\t\n01234567")).collect();
-        input.extend_from_slice(*random.pick(&[&b"\n"[..], b"", b"\t9\n"]));
-        agree(subject, &input)?;
-    }
-    Ok(())
 }
 
 /// Inputs whose output is written by hand.
@@ -154,10 +96,13 @@ pub fn made(suite: &mut Suite, label: &str, subject: impl Programs, largest: usi
 pub fn predicted(suite: &mut Suite, label: &str, subject: impl Programs) {
     for n in 1..=TERMS.len() {
         suite.test(&format!("{label} sweep program: size {n} with every small fuel and area"), || {
-            let sweeps = (0..FUELS).flat_map(|fuel| (n..n + ROOMS).map(move |area| (fuel, area)));
-            sweeps.into_iter().try_for_each(|(fuel, area)| agree(&subject, &line(n, fuel, area)))
+            small_runs(n).try_for_each(|(fuel, area)| agree(&subject, &line(n, fuel, area)))
         });
     }
-    suite.test(&format!("{label} sweep program: random lines"), || random_lines(&subject));
-    suite.test(&format!("{label} sweep program: short inputs"), || short_inputs(&subject));
+    suite.test(&format!("{label} sweep program: random lines"), || {
+        random_lines(91, |input| agree(&subject, input))
+    });
+    suite.test(&format!("{label} sweep program: short inputs"), || {
+        short_inputs(92, |input| agree(&subject, input))
+    });
 }

@@ -124,4 +124,8 @@ impl<P: Programs> Programs for Wrong<P> {
     fn sweep(&self, input: &[u8]) -> Result<Vec<u8>, String> {
         self.programs.sweep(input)
     }
+
+    fn dearest(&self, input: &[u8]) -> Result<Vec<u8>, String> {
+        self.programs.dearest(input)
+    }
 }

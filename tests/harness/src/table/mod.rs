@@ -3,11 +3,13 @@
 pub mod checking;
 pub mod comparing;
 pub mod counting;
+pub mod dearest;
 pub mod finishing;
 pub mod joining;
 pub mod matching;
 pub mod programs;
 pub mod reading;
 pub mod rows;
+pub mod small_lines;
 pub mod stepping;
 pub mod sweeping;
