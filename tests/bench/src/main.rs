@@ -2,8 +2,8 @@
 //!
 //!   bench [PICTURE.svg]     every table, and a chart where a path is given
 //!   bench --dear [STEPS]    every run of finishing that was tried to find the dearest, with so much fuel or with all
-//!   bench --only TABLE      one table: growth, small, short, counting, joining, rows, sweep, checking, stack or
-//!                           dear
+//!   bench --only TABLE      one table: growth, small, short, counting, joining, rows, sweep, dearest, checking, stack
+//!                           or dear
 //!   bench --rows WORD       the rows of the first table whose names have this word
 //!
 //! Both are built for release. Each call starts from the term with zeros behind it and a zeroed work area. Built with
@@ -15,6 +15,7 @@ mod checking;
 mod counting;
 mod dear;
 mod dear_runs;
+mod dearest;
 mod growth;
 mod joining;
 mod reducing;
@@ -22,6 +23,7 @@ mod repeating;
 mod rows;
 mod short_runs;
 mod small;
+mod small_runs;
 mod stack;
 mod sweeping;
 mod table;
@@ -32,13 +34,14 @@ use reducing::Timed;
 use table::Table;
 
 /// The tables behind the first two, each with its name.
-const TABLES: [(&str, fn() -> Table); 9] = [
+const TABLES: [(&str, fn() -> Table); 10] = [
     ("small", small::table),
     ("short", short_runs::table),
     ("counting", counting::table),
     ("joining", joining::table),
     ("rows", rows::table),
     ("sweep", sweeping::table),
+    ("dearest", dearest::table),
     ("checking", checking::table),
     ("stack", stack::table),
     ("dear", dear::table),
