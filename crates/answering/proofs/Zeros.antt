@@ -4,8 +4,9 @@ use native.Mathlib.Decide.{decLe}
 use native.Mathlib.Omega.{arith}
 use mathlib.Core.Path.{_≡_, sym, _∙_, ap, ap₂}
 use mathlib.Core.List.{List, _++_, append-nil}
-use lib.ListN.{length, take, drop, replicate, length-take, length-replicate, length-append, replicate-append-replicate}
-use lib.Seq.{take-all, take-at, drop-at, take-take, take-append-add}
+use lib.ListN.{length, take, replicate, length-take, length-replicate, length-append, replicate-append-replicate}
+use lib.Seq.{take-all, take-at, take-take, take-append-add}
+use Rattle.slices.proofs.Part.{drop-zeros}
 use Rattle.line_states.specs.Fed.{lengthCap}
 use Rattle.line_states.specs.Kept.{keptIn}
 use Rattle.line_states.proofs.Buffer.{kept-take}
@@ -25,9 +26,6 @@ parted a n h =
 pub take-zeros : (a n : ℕ) → a ≤ n → take a (zeros n) ≡ zeros a
 take-zeros a n h = ap (take a) (parted a n h) ∙ take-at (zeros a) (zeros (n - a)) a (length-zeros a)
 
-drop-zeros : (a n : ℕ) → a ≤ n → drop a (zeros n) ≡ zeros (n - a)
-drop-zeros a n h = ap (drop a) (parted a n h) ∙ drop-at (zeros a) (zeros (n - a)) a (length-zeros a)
-
 module _ (n area : ℕ) (term : List ℕ) (most : area ≤ 16384) (room : 16384 ≤ n) where
   -- a term that fills the area
   kept-over : area ≤ length term → take area (keptIn (zeros n) (take lengthCap term)) ≡ areaWith area term
@@ -45,7 +43,7 @@ module _ (n area : ℕ) (term : List ℕ) (most : area ≤ 16384) (room : 16384 
       let whole : take lengthCap term ≡ term = take-all lengthCap term (omega arith) in
       let front : take (length (zeros n)) term ≡ term = take-all (length (zeros n)) term (omega (arith, length-zeros n)) in
       ap (λ (t : List ℕ). take area (keptIn (zeros n) t)) whole
-      ∙ ap₂ (λ (t z : List ℕ). take area (t ++ z)) front (drop-zeros (length term) n (omega arith))
+      ∙ ap₂ (λ (t z : List ℕ). take area (t ++ z)) front (drop-zeros (length term) n)
       ∙ ap (λ (k : ℕ). take k (term ++ zeros (n - length term))) sum
       ∙ take-append-add term (zeros (n - length term)) left
       ∙ ap₂ (λ (t z : List ℕ). t ++ z) (sym (take-all area term (omega arith))) (take-zeros left (n - length term) (omega arith))

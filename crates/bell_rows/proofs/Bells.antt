@@ -1,6 +1,6 @@
 -- The bells of a chain by their places in its text, and a row put into its places: these carry the loop of `row_of`. Assumes nothing.
 use Prim.Native.Nat.{ℕ, zero, suc, _+_, _*_, _-_, _/_, _≤_, _<_, min}
-use native.Mathlib.Nat.{sub-zero, zero-sub, suc-sub-suc, suc-mul, mul-le-mul-right, mul-left-comm}
+use native.Mathlib.Nat.{suc-mul, mul-le-mul-right, mul-left-comm}
 use native.Mathlib.Omega.{arith}
 use mathlib.Core.Path.{_≡_, refl, sym, _∙_, ap, ap₂}
 use mathlib.Core.Logic.{_⊎_, ⊎-elim}
@@ -8,6 +8,7 @@ use mathlib.Core.List.{List, [], _∷_, _++_, List·Memᴰ, List·Memᴰ·head, 
 use lib.ListN.{length, getD, set, take, drop, replicate, length-take, length-drop}
 use lib.Seq.{paste, take-all, take-nil, drop-nil, getD-take, length-take-le, take-at}
 use Rattle.slices.specs.Part.{part}
+use Rattle.slices.proofs.Part.{drop-zeros}
 use Rattle.slices.proofs.Put.{paste-turn}
 use Rattle.bell_rows.specs.Row.{most, placed}
 use Rattle.bell_rows.specs.Bytes.{bellNumber, bellsIn}
@@ -36,12 +37,6 @@ bells-small (c ∷ d ∷ s) b (List·Memᴰ·head e) = let small = number-small 
 bells-small (c ∷ d ∷ s) b (List·Memᴰ·tail m) = bells-small s b m
 
 -- ---- a row put into its places one by one
-
--- zeros without the first of them
-drop-zeros : (i n : ℕ) → drop {A = ℕ} i (replicate n 0) ≡ replicate (n - i) 0
-drop-zeros zero n = ap (λ (k : ℕ). replicate k 0) (sym (sub-zero n))
-drop-zeros (suc i) zero = ap (λ (k : ℕ). replicate k 0) (sym (zero-sub (suc i)))
-drop-zeros (suc i) (suc n) = drop-zeros i n ∙ ap (λ (k : ℕ). replicate k 0) (sym (suc-sub-suc n i))
 
 abbrev pub empty : List ℕ
 empty = replicate most 0

@@ -1,11 +1,11 @@
--- The laws of `part`: its length, its ends, its bytes, parts of an append and of a part. Each is `take` and `drop` of `lib.Seq`.
+-- The laws of `part`: its length, its ends, its bytes, parts of an append and of a part; and zeros. Each is `take` and `drop` of `lib.Seq`.
 -- Assumes nothing.
 use mathlib.Core.Path.{_≡_, sym, ap, _∙_}
 use mathlib.Core.List.{List, [], _∷_, _++_}
 use Prim.Native.Nat.{ℕ, zero, suc, _+_, _-_, _≤_, _<_, min}
 use native.Mathlib.Nat.{sub-zero, zero-sub, suc-sub-suc}
 use native.Mathlib.Omega.{arith}
-use lib.ListN.{length, take, drop, getD, length-take, length-drop, drop-of-length-le}
+use lib.ListN.{length, take, drop, replicate, getD, length-take, length-drop, drop-of-length-le}
 use lib.Seq.{take-nil, take-all, take-add, take-take, drop-drop, drop-cons, drop-append-add, take-append-le, getD-take, getD-drop}
 use Rattle.slices.specs.Part.{part}
 
@@ -113,3 +113,11 @@ part-of-drop from to n s t h e =
     let start : n + (from - n) ≡ from = omega arith in
     let fall : (l : List ℕ) → drop from l ≡ drop (from - n) (drop n l) = λ l. sym (drop-drop (from - n) n l ∙ ap (λ (k : ℕ). drop k l) start) in
     ap (take (to - from)) (fall s ∙ ap (drop (from - n)) e ∙ sym (fall t))
+
+-- ---- zeros
+
+-- zeros without the first of them
+pub drop-zeros : (i n : ℕ) → drop {A = ℕ} i (replicate n 0) ≡ replicate (n - i) 0
+drop-zeros zero n = ap (λ (k : ℕ). replicate k 0) (sym (sub-zero n))
+drop-zeros (suc i) zero = ap (λ (k : ℕ). replicate k 0) (sym (zero-sub (suc i)))
+drop-zeros (suc i) (suc n) = drop-zeros i n ∙ ap (λ (k : ℕ). replicate k 0) (sym (suc-sub-suc n i))

@@ -1,12 +1,12 @@
 -- The ways out of `dearest`: a refusal beside no text, or the text of the dearest term. Carried by `lead-dearest`, and by the function
 -- giving whatever is the dearest. Assumes nothing.
-use Prim.Native.Nat.{ℕ, zero, suc, _-_, _≤_}
-use native.Mathlib.Omega.{arith}
+use Prim.Native.Nat.{ℕ, _-_, _≤_}
 use mathlib.Core.Path.{_≡_, sym, _∙_, ap, ap₂}
 use mathlib.Core.List.{List, _++_}
 use denote.Enum.Declared.{tagOf}
 use lib.ListN.{length, take, drop, replicate}
 use lib.Seq.{length-take-le}
+use Rattle.slices.proofs.Part.{drop-zeros}
 use Rattle.calculus.specs.Term.{text, size}
 use Rattle.reading.specs.Reply.{Reply}
 use Rattle.small_texts.specs.Texts.{largestSize, termAt, ways}
@@ -22,14 +22,6 @@ use Rattle.small_admission.proofs.Admission.{the-type}
 use Rattle.small_admission.proofs.Replies.{Refusal, reply-refused, reply-admitted, said-admitted}
 use Rattle.small_terms.proofs.Leading.{lead-inside, lead-dearest}
 use Rattle.small_terms.proofs.Dearer.{dearest-is, best}
-
--- zeros behind zeros
-zeros-behind : (n m : ℕ) → drop n (replicate {A = ℕ} m 0) ≡ replicate (m - n) 0
-zeros-behind zero m = let e : m ≡ m - 0 = omega arith in ap (λ (k : ℕ). replicate k 0) e
-zeros-behind (suc n) zero = let e : 0 ≡ 0 - suc n = omega arith in ap (λ (k : ℕ). replicate {A = ℕ} k 0) e
-zeros-behind (suc n) (suc m) =
-    let e : m - n ≡ suc m - suc n = omega arith in
-    zeros-behind n m ∙ ap (λ (k : ℕ). replicate k 0) e
 
 module _ (n fuel area : ℕ) (a : Admission) (said : replyOf a ≡ admitted n fuel area) where
   -- beside a refusal there is no text
@@ -56,7 +48,7 @@ module _ (n fuel area : ℕ) (a : Admission) (said : replyOf a ≡ admitted n fu
       let spelled : front ≡ text t =
       says ∙ text-written n index (take n noText) (length-take-le n noText short) short inside ∙ text-at n index inside in
       let behind : drop n noText ≡ replicate (length noText - size t) 0 =
-      zeros-behind n largestSize ∙ ap (λ (m : ℕ). replicate (largestSize - m) 0) (sym (dearest .small .sized)) in
+      drop-zeros n largestSize ∙ ap (λ (m : ℕ). replicate (largestSize - m) 0) (sym (dearest .small .sized)) in
       ap₂ (λ (r : Reply Unit) (s : List ℕ). Found.found r s (least - 1)) (reply-admitted a k) (ap₂ _++_ spelled behind)
       ∙ ap (λ (d : Dear). foundAs (Reply.answered d)) (sym (dearest-is sized dearest))
       ∙ ap (λ (r : Reply Unit). foundAs (ifAdmitted r (best n fuel area))) (sym (reply-admitted a k) ∙ said)
