@@ -38,7 +38,7 @@ dearestIn fuel area (t ∷ ts) =
     let r = run fuel area t in
     ifFinished (outcome r) (Dear.dear t (count r)) rest
 
--- `J` and 0 where there is none; proofs/Dearer.antt shows that there always is one
+-- `J` and 0 where there is none; proofs/Dearer.antt shows that every size from 1 on has one
 abbrev pub orNone : Option Dear → Dear
 orNone none = Dear.dear Term.J 0
 orNone (some d) = d
