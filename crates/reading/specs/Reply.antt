@@ -30,6 +30,11 @@ abbrev pub refuseIf : {X : Type 0} → Bool → ℕ → Reply X → Reply X
 refuseIf true number other = Reply.refused number 0
 refuseIf false number other = other
 
+-- a refusal, else what is made of the answer
+abbrev pub onward : {X Y : Type 0} → Reply X → (X → Reply Y) → Reply Y
+onward (Reply.refused number place) make = Reply.refused number place
+onward (Reply.answered x) make = make x
+
 -- `Refuses plain placed least most number place`: a number of the first list, at place 0, or one of the second, at a place in that range
 pub data Refuses (plain placed : List ℕ) (least most number place : ℕ) : Type 0 where
   at-zero : List·Memᴰ number plain → place ≡ 0 → Refuses plain placed least most number place

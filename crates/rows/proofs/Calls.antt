@@ -10,14 +10,13 @@ use lib.ListN.{length}
 use Rattle.calculus.specs.Term.{Term}
 use Rattle.slices.specs.Same.{same}
 use Rattle.repeats.specs.Repeats.{withoutRepeats}
-use Rattle.reading.specs.Reply.{Reply, refuseIf}
+use Rattle.reading.specs.Reply.{Reply, refuseIf, onward}
 use Rattle.reading.specs.Reading.{termRead}
 use Rattle.bell_rows.specs.Chain.{bellsOf}
 use Rattle.bell_rows.specs.Row.{fewest, most, cutInto}
 use Rattle.rows.specs.Ringing.{
   Rung,
   After,
-  onward,
   rowLimit,
   chained,
   bellsFor,

@@ -8,7 +8,7 @@ use lib.ListN.{length, replicate}
 use Rattle.calculus.specs.Term.{Term}
 use Rattle.slices.specs.Same.{same}
 use Rattle.repeats.specs.Repeats.{withoutRepeats}
-use Rattle.reading.specs.Reply.{Reply, refuseIf}
+use Rattle.reading.specs.Reply.{Reply, refuseIf, onward}
 use Rattle.reading.specs.Reading.{termRead}
 use Rattle.bell_rows.specs.Chain.{bellsOf}
 use Rattle.bell_rows.specs.Row.{fewest, most, isRow, cutInto, laidOut}
@@ -24,11 +24,6 @@ pub data Rung : Type 0 where
 -- the reply, and the table at exit
 pub data After : Type 0 where
   after : (reply : Reply Rung) (table : List ℕ) → After
-
--- a refusal, else what is made of the answer
-abbrev pub onward : {X Y : Type 0} → Reply X → (X → Reply Y) → Reply Y
-onward (Reply.refused number place) make = Reply.refused number place
-onward (Reply.answered x) make = make x
 
 -- 20 if the term is no chain
 abbrev pub chained : Option (List ℕ) → Reply (List ℕ)
