@@ -13,8 +13,9 @@ use Rattle.calculus.specs.Counts.{tally, uses}
 use Rattle.stepping.specs.Held.{Holds}
 use Rattle.stepping.proofs.Calls.{held-unique}
 use Rattle.tallies.specs.Tallies.{Addable}
+use Rattle.reading.specs.Stop.{hasStop}
 use Rattle.finishing.specs.Finishing.{Ran, noUses}
-use Rattle.finishing.specs.Loop.{hasStop, endWithoutFuel, Ready, MovesOn, Reaches}
+use Rattle.finishing.specs.Loop.{endWithoutFuel, Ready, MovesOn, Reaches}
 use Rattle.finishing.proofs.Passing.{Passes, passes-start, passes-steps, Comes, comes-finished, comes-spent, comes-no-room}
 use Rattle.finishing.proofs.Stops.{no-stop-next, stop-next}
 use Rattle.finishing.proofs.Lending.{held-size}

@@ -2,25 +2,19 @@
 -- (REQUIREMENTS, Finishing).
 use Prim.Native.Nat.{ℕ, _≤_, _<_}
 use mathlib.Core.Path.{_≡_}
-use mathlib.Core.Bool.{Bool, cond}
+use mathlib.Core.Bool.{cond}
 use mathlib.Core.List.{List}
-use lib.Dec.{ltb}
 use lib.ListN.{length}
 use Rattle.calculus.specs.Limits.{areaLimit}
-use Rattle.calculus.specs.Letter.{Letter, byte}
 use Rattle.calculus.specs.Term.{Term, size}
 use Rattle.calculus.specs.Order.{Next, next}
 use Rattle.calculus.specs.Run.{Outcome, Run, reached}
-use Rattle.slices.specs.Find.{indexOf}
 use Rattle.reading.specs.Reply.{Reply}
+use Rattle.reading.specs.Stop.{hasStop}
 use Rattle.stepping.specs.Held.{Holds}
 use Rattle.stepping.specs.Stepping.{Stepped}
 use Rattle.stepping.specs.Batch.{Advances}
 use Rattle.finishing.specs.Finishing.{Ran, recordOf}
-
--- whether a full stop stands among the bytes
-abbrev pub hasStop : List ℕ → Bool
-hasStop bytes = ltb (indexOf (byte Letter.stop) bytes) (length bytes)
 
 -- how a run ends that has no fuel left: finished comes before spent
 abbrev pub endWithoutFuel : List ℕ → Outcome

@@ -14,7 +14,7 @@ ghost use Rattle.stepping.specs.Answer.{answerOf};
 ghost use Rattle.admission.specs.Answer.{replyOf};
 ghost use Rattle.finishing.specs.Finishing.{After, noRun, finishingOf};
 ghost use Rattle.finishing.specs.Answer.{outcomeOf, ranOf};
-ghost use Rattle.finishing.specs.Loop.{hasStop, endWithoutFuel, Ready, StepsOn, MovesOn, Reaches};
+ghost use Rattle.finishing.specs.Loop.{endWithoutFuel, Ready, StepsOn, MovesOn, Reaches};
 
 // How a run ends.
 pub enum Outcome {
@@ -59,18 +59,11 @@ fn needed(size: usize, whole: usize) -> usize
     size + size
 }
 
-// Whether a full stop stands among the bytes.
-fn has_stop(s: &[u8]) -> bool
-    ensures { λ r. ⌜ r ≡ hasStop (now (s .entry)) ⌝ }
-{
-    slices::find(s, calculus::letters::STOP) < s.len()
-}
-
 // How a run ends that has no fuel left, by the bytes of the term reached.
 fn end_without_fuel(s: &[u8]) -> Outcome
     ensures { λ r. ⌜ outcomeOf r ≡ endWithoutFuel (now (s .entry)) ⌝ }
 {
-    if has_stop(s) {
+    if reading::has_stop(s) {
         return Outcome::Spent;
     }
     Outcome::Finished
@@ -121,7 +114,7 @@ fn run_term(area: &mut [u8], len: usize, work: &mut [u8], fuel: u64) -> Run
     let mut count: u64 = 0;
     let mut by_rule = [0u32; calculus::RULES];
     while count < fuel {
-        if !has_stop(&area[..size]) {
+        if !reading::has_stop(&area[..size]) {
             return Run {
                 outcome: Outcome::Finished,
                 count,

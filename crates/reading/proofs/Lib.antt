@@ -4,3 +4,4 @@ pub mod Whole
 pub mod Terms
 pub mod Numbers
 pub mod Refusing
+pub mod Stops

@@ -3,3 +3,4 @@ pub mod Area
 pub mod Reading
 pub mod Answer
 pub mod Arity
+pub mod Stop

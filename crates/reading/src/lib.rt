@@ -6,6 +6,7 @@ ghost use Rattle.reading.specs.Reply.{numberIn, placeIn};
 ghost use Rattle.reading.specs.Reading.{readingOf};
 ghost use Rattle.reading.specs.Answer.{answerOf};
 ghost use Rattle.reading.specs.Arity.{arityOf};
+ghost use Rattle.reading.specs.Stop.{hasStop};
 
 // What reading answers; specs/Answer.antt gives the number and the value of each case.
 pub enum Reading {
@@ -65,6 +66,13 @@ pub fn read(s: &[u8]) -> Reading
     } else {
         Reading::NotWhole(at)
     }
+}
+
+// Whether a full stop stands among the bytes.
+pub fn has_stop(s: &[u8]) -> bool
+    ensures { λ r. ⌜ r ≡ hasStop (now (s .entry)) ⌝ }
+{
+    slices::find(s, letters::STOP) < s.len()
 }
 
 // What stands in the place of an arity for a byte that is no letter.

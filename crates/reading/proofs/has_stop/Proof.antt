@@ -1,11 +1,11 @@
--- `finishing::has_stop` meets its contract: what is found before the end is a full stop. Assumes nothing.
+-- `reading::has_stop` meets its contract: what is found before the end is a full stop. Assumes nothing.
 use Prim.Native.Nat.{ℕ}
 use mathlib.Core.Path.{ap}
 use borrow.Author.Needs.{needs}
 use lib.Dec.{ltb}
 use lib.ListN.{length}
-use Rattle.finishing.proofs.has_stop.Statement.{statement}
-use Rattle.finishing.proofs.has_stop.Tie as tie
+use Rattle.reading.proofs.has_stop.Statement.{statement}
+use Rattle.reading.proofs.has_stop.Tie as tie
 
 find-requires : tie.Need-find-requires
 find-requires c κs = search needs
