@@ -6,3 +6,4 @@ pub mod Wrote
 pub mod Appending
 pub mod Splitting
 pub mod Decimal
+pub mod Zeros

@@ -1,6 +1,6 @@
 // What is read of slices: bytes, parts and their places. Each function is total: its definition says what happens out of range.
 ghost use mathlib.Core.Path.{_≡_};
-ghost use lib.ListN.{getD};
+ghost use lib.ListN.{getD, length, replicate};
 ghost use Rattle.slices.specs.Find.{indexOf};
 ghost use Rattle.slices.specs.Part.{part};
 ghost use Rattle.slices.specs.Same.{same};
@@ -37,6 +37,21 @@ pub fn find(s: &[u8], b: u8) -> usize
         at += 1;
     }
     at
+}
+
+// Whether every byte is 0. It has no way out before the end, so that the compiler looks at many bytes at once.
+pub fn is_zeros(s: &[u8]) -> bool
+    ensures { λ r. ⌜ r ≡ same (now (s .entry)) (replicate (length (now (s .entry))) 0) ⌝ }
+{
+    let mut clean = true;
+    let mut i = 0;
+    while i < s.len() {
+        if s[i] != 0 {
+            clean = false;
+        }
+        i += 1;
+    }
+    clean
 }
 
 // The part of `s` from index `from` up to, not including, `to`.
