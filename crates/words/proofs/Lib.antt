@@ -1,2 +1,3 @@
 pub mod Words
 mod Writing
+pub mod At

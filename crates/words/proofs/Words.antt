@@ -39,7 +39,7 @@ digits :
     r₀ + r₁ * 256 + r₂ * 65536 + r₃ * 16777216 ≡ n
 digits n a b c r₀ r₁ r₂ r₃ e f g h = omega arith
 
-word-back : (n : ℕ) (rest : List ℕ) → n < wordLimit → wordIn (wordOf n ++ rest) ≡ n
+pub word-back : (n : ℕ) (rest : List ℕ) → n < wordLimit → wordIn (wordOf n ++ rest) ≡ n
 word-back n rest h =
     let b : n / 256 / 256 ≡ n / 65536 = div-div-eq-div-mul n 256 256 in
     let c : n / 65536 / 256 ≡ n / 16777216 = div-div-eq-div-mul n 65536 256 in

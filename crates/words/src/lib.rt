@@ -1,7 +1,28 @@
-// Numbers as four bytes each, low byte first, written into a slice. Total: the definition says what happens where they do not fit.
+// Numbers as four bytes each, low byte first, read from a slice and written into one. Total: the definition says what happens where they do not fit.
 ghost use mathlib.Core.Path.{_≡_};
+ghost use Prim.Native.Nat.{_≤_};
 ghost use Rattle.slices.specs.Put.{put, behind};
-ghost use Rattle.words.specs.Word.{wordOf, wordsOf};
+ghost use Rattle.words.specs.Word.{wordOf, wordsOf, wordAt};
+
+// A byte as a number of 32 bits.
+fn wide(b: u8) -> u32
+    ensures { λ r. ⌜ (r ≡ b) × (r ≤ 255) ⌝ }
+{
+    b as u32
+}
+
+// The number whose four bytes stand from index `at` on; 0 where they are not all there.
+pub fn word_at(s: &[u8], at: usize) -> u32
+    ensures { λ r. ⌜ r ≡ wordAt at (now (s .entry)) ⌝ }
+{
+    if s.len() < 4 {
+        return 0;
+    }
+    if s.len() - 4 < at {
+        return 0;
+    }
+    wide(s[at]) + wide(s[at + 1]) * 256 + wide(s[at + 2]) * 65536 + wide(s[at + 3]) * 16777216
+}
 
 // Writes a number to index `at` of `dst` and answers the index behind it; changes nothing where it does not fit.
 pub fn append_word(n: u32, dst: &mut [u8], at: usize) -> usize
