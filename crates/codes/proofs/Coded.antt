@@ -9,18 +9,21 @@ use Rattle.counting.specs.Counting as counting
 use Rattle.verdicts.specs.Comparing as comparing
 use Rattle.joining.specs.Joining as joining
 use Rattle.rows.specs.Ringing as ringing
+use Rattle.entries.specs.Entering as entering
 use Rattle.codes.specs.Encoding.{
   stepNumber,
   finishNumber,
   compareNumber,
   joinNumber,
   rowsNumber,
+  enterNumber,
   codedStep,
   codedFinish,
   codedCount,
   codedCompare,
   codedJoin,
   codedRows,
+  codedEnter,
 }
 
 pub coded-step :
@@ -53,3 +56,8 @@ pub coded-rows :
     {n : ℕ} {reply : Reply ringing.Rung} {table : List ℕ} {end : ringing.After} →
     n ≡ rowsNumber reply → ringing.After.after reply table ≡ end → (n, table) ≡ codedRows end
 coded-rows {n} {reply} {table} number ended = ap (λ (m : ℕ). (m, table)) number ∙ ap codedRows ended
+
+pub coded-enter :
+    {n : ℕ} {reply : Reply entering.Entered} {store : List ℕ} {end : entering.After} →
+    n ≡ enterNumber reply → entering.After.after reply store ≡ end → (n, store) ≡ codedEnter end
+coded-enter {n} {reply} {store} number ended = ap (λ (m : ℕ). (m, store)) number ∙ ap codedEnter ended

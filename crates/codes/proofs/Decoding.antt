@@ -136,6 +136,11 @@ pub rung-decoded :
 unfolding decoded
 rung-decoded rows different few fits = let (c, v, s) = narrow-parts 130 rows different (omega arith) few fits in rw (c, v, s)
 
+pub entered-decoded :
+    (number : ℕ) → number < 16777216 → decoded valuePart (encode (Parts.narrow 150 number 0)) ≡ Reply.answered number
+unfolding decoded
+entered-decoded number few = let (c, v, s) = narrow-parts 150 number 0 (omega arith) few (omega arith) in rw (c, v)
+
 pub accepted-decoded : (lines : ℕ) → lines < 16777216 → decoded valuePart (encode (Parts.narrow 120 lines 0)) ≡ Reply.answered lines
 unfolding decoded
 accepted-decoded lines few = let (c, v, s) = narrow-parts 120 lines 0 (omega arith) few (omega arith) in rw (c, v)

@@ -39,6 +39,10 @@ use Rattle.repeats.proofs.Repeats.{fits}
 use Rattle.rows.specs.Ringing as ringing
 use Rattle.rows.specs.RingsAs.{RingsAs}
 use Rattle.rows.proofs.Exactly.{RingsTo, rings-to}
+use Rattle.entries.specs.Entering as entering
+use Rattle.entries.proofs.Numbers.{numbered-most, catalogue-fits}
+use Rattle.entries.proofs.Exactly.{entering-refuses}
+use Rattle.entries.proofs.Calls.{answered-numbered}
 use Rattle.derivation_files.specs.Checking.{checkingOf}
 use Rattle.derivation_files.proofs.Listed.{checking-refused}
 use Rattle.derivation_files.proofs.Files.{accepted-exactly}
@@ -53,6 +57,7 @@ use Rattle.codes.specs.Encoding.{
   compareNumber,
   joinNumber,
   rowsNumber,
+  enterNumber,
   checkNumber,
   matchNumber,
   codedStep,
@@ -61,6 +66,7 @@ use Rattle.codes.specs.Encoding.{
   codedCompare,
   codedJoin,
   codedRows,
+  codedEnter,
 }
 use Rattle.codes.specs.Decoding.{
   placePart,
@@ -81,6 +87,8 @@ use Rattle.codes.specs.Decoding.{
   decodedJoin,
   sizeCut,
   decodedRows,
+  decodedEnter,
+  numberSeen,
   decodedCheck,
   decodedMatch,
   InC,
@@ -99,6 +107,7 @@ use Rattle.codes.proofs.Decoding.{
   compared-decoded,
   joined-decoded,
   rung-decoded,
+  entered-decoded,
   accepted-decoded,
   matched-decoded,
 }
@@ -210,6 +219,17 @@ module _ (bytes : List ℕ) (n : ℕ) (table : List ℕ) (short : length bytes <
   rows-decoded (ringing.After.after reply table′) (RingsAs.rung {rows = rows} {different = k} w limited room all-good d) =
       cc (rung-decoded (length rows) k (omega arith) (omega (arith, few-different d)))
 
+module _ (bytes store : List ℕ) (short : length bytes < placeLimit) where
+  enter-decoded : (after : entering.After) → entering.enteringOf bytes store ≡ after → decodedEnter (codedEnter after) ≡ numberSeen after
+  unfolding enterNumber
+  enter-decoded (entering.After.after (Reply.refused n p) store′) e =
+      let (listed, same) = entering-refuses bytes store store′ n p e in
+      cc (refused-decoded valuePart (omega arith) (omega arith) short listed)
+  enter-decoded (entering.After.after (Reply.answered x) store′) e =
+      let (t, results, spelt, normal, kept, numbered, long) = answered-numbered bytes store store′ x e in
+      let (few, fit) = catalogue-fits (kept .catalogue) in
+      cc (entered-decoded (entering.enteredNumber x) (omega (arith, numbered-most numbered, few)))
+
 check-decoded : (file : List ℕ) (r : Reply ℕ) → checkingOf file ≡ r → decodedCheck (checkNumber r) ≡ r
 unfolding checkNumber
 check-decoded file (Reply.refused n p) e =
@@ -239,6 +259,7 @@ in-c =
           join-decoded f g area (omega arith) (omega arith) (joining.joiningOf f g area) (joins-to f g area)
           ∙ size-whole f g area (joining.joiningOf f g area) (joins-to f g area) small;
       rows = λ bytes n table short. rows-decoded bytes n table short (ringing.ringingOf bytes n table) (rings-to bytes n table);
+      enter = λ bytes store short. enter-decoded bytes store short (entering.enteringOf bytes store) refl;
       check = λ file. check-decoded file (checkingOf file) refl;
       match-claims = λ first second. match-decoded first second (matchingOf first second) refl;
     }

@@ -18,6 +18,7 @@ use Rattle.verdicts.specs.Comparing as comparing
 use Rattle.joining.specs.Join.{joinSize}
 use Rattle.joining.specs.Joining as joining
 use Rattle.rows.specs.Ringing as ringing
+use Rattle.entries.specs.Entering as entering
 use Rattle.derivation_files.specs.Checking.{checkingOf}
 use Rattle.matching.specs.Matching.{matchingOf}
 use Rattle.codes.specs.Encoding.{
@@ -32,6 +33,7 @@ use Rattle.codes.specs.Encoding.{
   codedCompare,
   codedJoin,
   codedRows,
+  codedEnter,
 }
 
 -- ---- the macros of include/controller.h
@@ -135,15 +137,24 @@ sizeCut (joining.After.after (Reply.answered size) area) = joining.After.after (
 abbrev pub decodedRows : ℕ × List ℕ → ringing.After
 decodedRows left = ringing.After.after (decoded rungIn (left .0)) (left .1)
 
+abbrev pub decodedEnter : ℕ × List ℕ → Reply ℕ × List ℕ
+decodedEnter left = (decoded valuePart (left .0), left .1)
+
+-- of an entry the number is seen, and not whether the result is new
+abbrev pub numberSeen : entering.After → Reply ℕ × List ℕ
+numberSeen (entering.After.after (Reply.refused number place) store) = (Reply.refused number place, store)
+numberSeen (entering.After.after (Reply.answered e) store) = (Reply.answered (entering.enteredNumber e), store)
+
 abbrev pub decodedCheck : ℕ → Reply ℕ
 decodedCheck reply = decoded valuePart reply
 
 abbrev pub decodedMatch : ℕ → Reply Bool
 decodedMatch reply = decoded matchIn reply
 
--- What the caller sees is what the operation answers and leaves, for every call of the nine functions; `controller_finish` shows all but
--- the counts by rule, `controller_join` all of a size that 32 bits hold. (What stands in the brackets is what the function leaves, by its
--- contract.) Only the three that take terms of any length have a condition: no term has 2 to the 56 bytes or more.
+-- What the caller sees is what the operation answers and leaves, for every call of the ten functions; `controller_finish` shows all but
+-- the counts by rule, `controller_join` all of a size that 32 bits hold, `controller_enter` all but whether the result is new. (What stands
+-- in the brackets is what the function leaves, by its contract.) Only the four that take terms of any length have a condition: no term has
+-- 2 to the 56 bytes or more.
 pub record InC : Type 0 where
   pub read : (bytes : List ℕ) → length bytes < placeLimit → decodedRead (readNumber (readingOf bytes)) ≡ readingOf bytes
   pub step :
@@ -168,5 +179,8 @@ pub record InC : Type 0 where
   pub rows :
       (bytes : List ℕ) (n : ℕ) (table : List ℕ) → length bytes < placeLimit →
       decodedRows (codedRows (ringing.ringingOf bytes n table)) ≡ ringing.ringingOf bytes n table
+  pub enter :
+      (bytes store : List ℕ) → length bytes < placeLimit →
+      decodedEnter (codedEnter (entering.enteringOf bytes store)) ≡ numberSeen (entering.enteringOf bytes store)
   pub check : (file : List ℕ) → decodedCheck (checkNumber (checkingOf file)) ≡ checkingOf file
   pub match-claims : (first second : List ℕ) → decodedMatch (matchNumber (matchingOf first second)) ≡ matchingOf first second

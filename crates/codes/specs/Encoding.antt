@@ -10,6 +10,7 @@ use Rattle.counting.specs.Counting as counting
 use Rattle.verdicts.specs.Comparing as comparing
 use Rattle.joining.specs.Joining as joining
 use Rattle.rows.specs.Ringing as ringing
+use Rattle.entries.specs.Entering as entering
 
 -- ---- a code and what stands behind it
 
@@ -72,6 +73,10 @@ joinParts size = Parts.narrow 160 0 size
 abbrev pub rowsParts : ringing.Rung → Parts
 rowsParts (ringing.Rung.rung rows different) = Parts.narrow 130 rows different
 
+-- the catalogue: 150 entered, with the number
+abbrev pub enterParts : entering.Entered → Parts
+enterParts e = Parts.narrow 150 (entering.enteredNumber e) 0
+
 -- checking: 120 accepted, with the number of lines
 abbrev pub checkParts : ℕ → Parts
 checkParts lines = Parts.narrow 120 lines 0
@@ -101,6 +106,9 @@ joinNumber reply = encode (parts joinParts reply)
 unfoldable pub rowsNumber : Reply ringing.Rung → ℕ
 rowsNumber reply = encode (parts rowsParts reply)
 
+unfoldable pub enterNumber : Reply entering.Entered → ℕ
+enterNumber reply = encode (parts enterParts reply)
+
 unfoldable pub checkNumber : Reply ℕ → ℕ
 checkNumber reply = encode (parts checkParts reply)
 
@@ -126,3 +134,6 @@ codedJoin (joining.After.after reply area) = (joinNumber reply, area)
 
 abbrev pub codedRows : ringing.After → ℕ × List ℕ
 codedRows (ringing.After.after reply table) = (rowsNumber reply, table)
+
+abbrev pub codedEnter : entering.After → ℕ × List ℕ
+codedEnter (entering.After.after reply store) = (enterNumber reply, store)

@@ -7,9 +7,10 @@ ghost use Rattle.counting.specs.Counting.{countingOf};
 ghost use Rattle.verdicts.specs.Comparing.{comparingOf};
 ghost use Rattle.joining.specs.Joining.{joiningOf};
 ghost use Rattle.rows.specs.Ringing.{ringingOf};
+ghost use Rattle.entries.specs.Entering.{enteringOf};
 ghost use Rattle.derivation_files.specs.Checking.{checkingOf};
 ghost use Rattle.matching.specs.Matching.{matchingOf};
-ghost use Rattle.codes.specs.Encoding.{readNumber, checkNumber, matchNumber, codedStep, codedFinish, codedCount, codedCompare, codedJoin, codedRows};
+ghost use Rattle.codes.specs.Encoding.{readNumber, checkNumber, matchNumber, codedStep, codedFinish, codedCount, codedCompare, codedJoin, codedRows, codedEnter};
 
 // Whether bytes, any number of them, are the text of one term.
 #[no_mangle]
@@ -100,6 +101,14 @@ pub extern "C" fn controller_rows(term: &[u8], bells: usize, table: &mut [u8]) -
     ensures { λ r. ⌜ (r, now (table .exit)) ≡ codedRows (ringingOf (now (term .entry)) «bells» (now (table .entry))) ⌝ }
 {
     term_numbers::rows_number(rows::ring(term, bells, table))
+}
+
+// Enters a finished result in the catalogue that the store keeps.
+#[no_mangle]
+pub extern "C" fn controller_enter(term: &[u8], store: &mut [u8]) -> u64
+    ensures { λ r. ⌜ (r, now (store .exit)) ≡ codedEnter (enteringOf (now (term .entry)) (now (store .entry))) ⌝ }
+{
+    term_numbers::enter_number(catalogue::enter(term, store))
 }
 
 // Whether each line of a derivation file follows.

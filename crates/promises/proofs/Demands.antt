@@ -34,6 +34,8 @@ use Rattle.joining.proofs.Calls.{joins-exactly}
 use Rattle.rows.specs.Ringing as ringing
 use Rattle.rows.specs.RingsAs.{RingsAs}
 use Rattle.rows.proofs.Exactly.{rings-exactly}
+use Rattle.entries.proofs.Exactly.{entering-refuses, enters-exactly}
+use Rattle.entries.proofs.Calls.{number-bytes}
 use Rattle.small_admission.specs.Admission.{Refused}
 use Rattle.small_terms.specs.Sweep.{SweepsAs}
 use Rattle.small_terms.specs.Dearest.{FindsAs}
@@ -210,6 +212,22 @@ ran-of :
     RanTo area len work fuel o n k s area′ work′
 ran-of area work area′ work′ len fuel o n k s e = finish-ran (subst (finish.Call area len work fuel) e (finish.call area len work fuel))
 
+-- so they are of two terms' runs
+equal-of :
+    (area₁ work₁ area₁′ work₁′ area₂ work₂ area₂′ work₂′ : List ℕ) (len₁ fuel₁ n₁ s₁ len₂ fuel₂ n₂ s₂ : ℕ) (k₁ k₂ : List ℕ) (t u : Term) →
+    Holds area₁ len₁ t →
+    Holds area₂ len₂ u →
+    finishing.finishingOf area₁ len₁ work₁ fuel₁ ≡ finishing.After.after (Reply.answered tt) (finishing.Ran.ran Outcome.finished n₁ k₁ s₁) area₁′ work₁′ →
+    finishing.finishingOf area₂ len₂ work₂ fuel₂ ≡ finishing.After.after (Reply.answered tt) (finishing.Ran.ran Outcome.finished n₂ k₂ s₂) area₂′ work₂′ →
+    (take s₁ area₁′ ≡ take s₂ area₂′) ↔ Turn t u
+equal-of area₁ work₁ area₁′ work₁′ area₂ work₂ area₂′ work₂′ len₁ fuel₁ n₁ s₁ len₂ fuel₂ n₂ s₂ k₁ k₂ t u held₁ held₂ e₁ e₂ =
+    let r₁ = ran-of area₁ work₁ area₁′ work₁′ len₁ fuel₁ Outcome.finished n₁ k₁ s₁ e₁ in
+    let r₂ = ran-of area₂ work₂ area₂′ work₂′ len₂ fuel₂ Outcome.finished n₂ k₂ s₂ e₂ in
+    subst₂ (λ (x y : Term). (take s₁ area₁′ ≡ take s₂ area₂′) ↔ Turn x y)
+    (step.held-unique area₁ len₁ (r₁ .start) t (r₁ .held) held₁)
+    (step.held-unique area₂ len₂ (r₂ .start) u (r₂ .held) held₂)
+    (results-of r₁ r₂)
+
 pub demands : Demands
 demands =
     record {
@@ -225,6 +243,7 @@ demands =
           compare-refused (subst (compare.Call first len₁ second len₂ work fuel) e (compare.call first len₁ second len₂ work fuel));
       joining-refuses = λ f g area area′ number place e. join-refused (joins-exactly f g area area′ (Reply.refused number place) .0 e);
       rows-refuse = λ bytes n table table′ number place e. rows-refused (rings-exactly bytes n table table′ (Reply.refused number place) .0 e);
+      entering-refuses = entering-refuses;
       sweep-refuses = λ n fuel area number place e. sweep-refused (sweeps-exactly n fuel area (Reply.refused number place) .0 e);
       dearest-refuses = λ n fuel area number place e. dearest-refused (finds-exactly n fuel area (Reply.refused number place) .0 e);
       checking-refuses = checking-refused;
@@ -247,6 +266,7 @@ demands =
       run-finishes = λ area work len fuel t r. run-finishes;
       joins = joins-exactly;
       rings = rings-exactly;
+      enters = enters-exactly;
       sweeps = sweeps-exactly;
       finds = finds-exactly;
       checks = λ file reply. (λ e. subst (ChecksAs file) e (checks-as file), λ c. sym (checks-as-only file reply c));
@@ -256,14 +276,14 @@ demands =
       claim-derivable = λ file j claims. accepted-derivable claims;
       laid-out = λ j earlier. laid-out;
       matched = λ first second G D t u W X. match-exactly;
-      equal-exactly =
-          λ area₁ work₁ area₁′ work₁′ area₂ work₂ area₂′ work₂′ len₁ fuel₁ n₁ s₁ len₂ fuel₂ n₂ s₂ k₁ k₂ t u held₁ held₂ e₁ e₂.
-          let r₁ = ran-of area₁ work₁ area₁′ work₁′ len₁ fuel₁ Outcome.finished n₁ k₁ s₁ e₁ in
-          let r₂ = ran-of area₂ work₂ area₂′ work₂′ len₂ fuel₂ Outcome.finished n₂ k₂ s₂ e₂ in
-          subst₂ (λ (x y : Term). (take s₁ area₁′ ≡ take s₂ area₂′) ↔ Turn x y)
-          (step.held-unique area₁ len₁ (r₁ .start) t (r₁ .held) held₁)
-          (step.held-unique area₂ len₂ (r₂ .start) u (r₂ .held) held₂)
-          (results-of r₁ r₂);
+      equal-exactly = equal-of;
       results-exactly = λ area₁ work₁ area₂ work₂ len₁ fuel₁ len₂ fuel₂ t u r s. results-exactly;
+      one-number =
+          λ area₁ work₁ area₁′ work₁′ area₂ work₂ area₂′ work₂′ len₁ fuel₁ n₁ s₁ len₂ fuel₂ n₂ s₂ k₁ k₂ t u store store′ calls e₁ e₂ held₁ held₂
+          ran₁ ran₂ led m₁ m₂.
+          let numbers = number-bytes store store′ (take s₁ area₁′) (take s₂ area₂′) calls e₁ e₂ led m₁ m₂ in
+          let terms =
+          equal-of area₁ work₁ area₁′ work₁′ area₂ work₂ area₂′ work₂′ len₁ fuel₁ n₁ s₁ len₂ fuel₂ n₂ s₂ k₁ k₂ t u held₁ held₂ ran₁ ran₂ in
+          (λ e. terms .0 (numbers .0 e), λ turns. numbers .1 (terms .1 turns));
       kept = λ file G t W area work len fuel r claims run-of. run-keeps G W run-of (accepted-derivable claims);
     }

@@ -2,7 +2,8 @@
 -- that those definitions are shown to agree with. `demands` of proofs/Demands.antt is the proof.
 -- That a call ends, does nothing undefined, and that its reply and every lent byte are those of these definitions, for every input, is what the
 -- contract of each operation says; none has a `requires`. That no result is overlooked stands beside them, in specs/Results.antt, what joins
--- do in specs/Joined.antt, what rows say in specs/RowsSay.antt, and what a sweep says of small terms in specs/SmallTerms.antt.
+-- do in specs/Joined.antt, what rows say in specs/RowsSay.antt, what the catalogue says in specs/CatalogueSays.antt, and what a sweep says
+-- of small terms in specs/SmallTerms.antt.
 use Prim.Native.Nat.{ℕ, _≤_, _<_, min}
 use mathlib.Core.Path.{_≡_}
 use mathlib.Core.Bool.{true}
@@ -33,6 +34,9 @@ use Rattle.joining.specs.Joining as joining
 use Rattle.joining.specs.Joins.{JoinsAs}
 use Rattle.rows.specs.Ringing as ringing
 use Rattle.rows.specs.RingsAs.{RingsAs}
+use Rattle.entries.specs.Entering as entering
+use Rattle.entries.specs.EntersAs.{EntersAs}
+use Rattle.entries.specs.Calls.{Call, Calls}
 use Rattle.small_terms.specs.Sweep.{Swept, sweepOf, SweepsAs}
 use Rattle.small_terms.specs.Dearest.{Dear, dearestOf, FindsAs}
 use Rattle.derivation_files.specs.Checking.{checkingOf}
@@ -58,6 +62,10 @@ JoinRefuses term number place = Refuses (31 ∷ []) (5 ∷ 6 ∷ 7 ∷ []) 0 (le
 abbrev pub RowsRefuse : (bytes : List ℕ) (number place : ℕ) → Type 0
 RowsRefuse bytes number place =
     Refuses (20 ∷ 21 ∷ []) (5 ∷ 6 ∷ 7 ∷ []) 0 (length bytes) number place ⊎ Refuses [] (22 ∷ []) 1 ringing.rowLimit number place
+
+-- those of the catalogue: 2 and 28 to 30 at place 0, and reading's own
+abbrev pub EnterRefuses : (bytes : List ℕ) (number place : ℕ) → Type 0
+EnterRefuses bytes number place = Refuses (2 ∷ 28 ∷ 29 ∷ 30 ∷ []) (5 ∷ 6 ∷ 7 ∷ []) 0 (length bytes) number place
 
 -- those of a call for small terms, at place 0
 abbrev pub SmallTermsRefuse : (number place : ℕ) → Type 0
@@ -140,6 +148,10 @@ pub record Demands : Type 0 where
       (bytes : List ℕ) (n : ℕ) (table table′ : List ℕ) (number place : ℕ) →
       ringing.ringingOf bytes n table ≡ ringing.After.after (Reply.refused number place) table′ →
       RowsRefuse bytes number place × (table′ ≡ table)
+  pub entering-refuses :
+      (bytes store store′ : List ℕ) (number place : ℕ) →
+      entering.enteringOf bytes store ≡ entering.After.after (Reply.refused number place) store′ →
+      EnterRefuses bytes number place × (store′ ≡ store)
   pub sweep-refuses : (n fuel area number place : ℕ) → sweepOf n fuel area ≡ Reply.refused number place → SmallTermsRefuse number place
   pub dearest-refuses : (n fuel area number place : ℕ) → dearestOf n fuel area ≡ Reply.refused number place → SmallTermsRefuse number place
   pub checking-refuses : (file : List ℕ) (number line : ℕ) → checkingOf file ≡ Reply.refused number line → CheckRefuses file number line
@@ -188,6 +200,10 @@ pub record Demands : Type 0 where
   pub rings :
       (bytes : List ℕ) (n : ℕ) (table table′ : List ℕ) (reply : Reply ringing.Rung) →
       (ringing.ringingOf bytes n table ≡ ringing.After.after reply table′) ↔ RingsAs bytes n table reply table′
+  -- and with the catalogue: the number of a result that is there, or the next one for a result that is not and has room
+  pub enters :
+      (bytes store store′ : List ℕ) (reply : Reply entering.Entered) →
+      (entering.enteringOf bytes store ≡ entering.After.after reply store′) ↔ EntersAs bytes store reply store′
   -- and with sweeps: the run of every small term, and what the runs come to
   pub sweeps : (n fuel area : ℕ) (reply : Reply Swept) → (sweepOf n fuel area ≡ reply) ↔ SweepsAs n fuel area reply
   -- and with the dearest small term: its run finishes, none makes more steps, and no earlier one as many
@@ -217,6 +233,19 @@ pub record Demands : Type 0 where
       (area₁ work₁ area₂ work₂ : List ℕ) (len₁ fuel₁ len₂ fuel₂ : ℕ) (t u : Term) (r s : Run) →
       RunOf area₁ len₁ work₁ fuel₁ t r → RunOf area₂ len₂ work₂ fuel₂ u s → outcome r ≡ Outcome.finished → outcome s ≡ Outcome.finished →
       (text (reached t r) ≡ text (reached u s)) ↔ Turn t u
+  -- what the catalogue is for: where the results of two finished runs were both entered in one store, by calls among any others, they have one
+  -- number exactly when the terms that the runs started from turn into each other. The store may have held anything before
+  pub one-number :
+      (area₁ work₁ area₁′ work₁′ area₂ work₂ area₂′ work₂′ : List ℕ) (len₁ fuel₁ n₁ s₁ len₂ fuel₂ n₂ s₂ : ℕ) (k₁ k₂ : List ℕ) (t u : Term)
+      (store store′ : List ℕ) (calls : List Call) (e₁ e₂ : entering.Entered) →
+      Holds area₁ len₁ t →
+      Holds area₂ len₂ u →
+      finishing.finishingOf area₁ len₁ work₁ fuel₁ ≡ finishing.After.after (Reply.answered tt) (finishing.Ran.ran Outcome.finished n₁ k₁ s₁) area₁′ work₁′ →
+      finishing.finishingOf area₂ len₂ work₂ fuel₂ ≡ finishing.After.after (Reply.answered tt) (finishing.Ran.ran Outcome.finished n₂ k₂ s₂) area₂′ work₂′ →
+      Calls store calls store′ →
+      List·Memᴰ (Call.made (take s₁ area₁′) (Reply.answered e₁)) calls →
+      List·Memᴰ (Call.made (take s₂ area₂′) (Reply.answered e₂)) calls →
+      (entering.enteredNumber e₁ ≡ entering.enteredNumber e₂) ↔ Turn t u
   -- every term of any run, whatever its fuel, area and outcome, has the type of an accepted claim on the term that it started from
   pub kept :
       (file : List ℕ) (G : Context) (t : Term) (W : Ty) (area work : List ℕ) (len fuel : ℕ) (r : Run) →

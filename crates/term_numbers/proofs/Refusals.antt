@@ -30,6 +30,10 @@ use Rattle.rows.specs.Answer as ringing
 use Rattle.rows.specs.declared.Ringing.{Ringing}
 use Rattle.rows.specs.declared.Ringing.the-variants as ring
 use Rattle.rows.proofs.Ringing.{the-type as Ringing-type}
+use Rattle.catalogue.specs.Answer as entering
+use Rattle.catalogue.specs.declared.Entering.{Entering}
+use Rattle.catalogue.specs.declared.Entering.the-variants as enter
+use Rattle.catalogue.proofs.Entering.{the-type as Entering-type}
 
 pub reading-refusal : (a : Reading) → OneOf (1 ∷ 2 ∷ 3 ∷ []) (tagOf Reading-type a) → Refusal (reading.answerOf a)
 reading-refusal (Whole size) k = absurd (miss (1 ∷ 2 ∷ 3 ∷ []) 0 tt k)
@@ -66,3 +70,12 @@ ringing-refusal ring.NoChain k = refl
 ringing-refusal ring.NoTable k = refl
 ringing-refusal (ring.BadRow number) k = refl
 ringing-refusal (ring.Rows count different) k = absurd (miss (0 ∷ 1 ∷ 2 ∷ 3 ∷ []) 4 tt k)
+
+pub entering-refusal : (a : Entering) → OneOf (0 ∷ 1 ∷ 2 ∷ 3 ∷ 4 ∷ []) (tagOf Entering-type a) → Refusal (entering.answerOf a)
+entering-refusal enter.StoreTooShort k = refl
+entering-refusal enter.NoCatalogue k = refl
+entering-refusal (enter.Unread reading) k = refl
+entering-refusal enter.NotNormal k = refl
+entering-refusal enter.Full k = refl
+entering-refusal (enter.Known number) k = absurd (miss (0 ∷ 1 ∷ 2 ∷ 3 ∷ 4 ∷ []) 5 tt k)
+entering-refusal (enter.New number) k = absurd (miss (0 ∷ 1 ∷ 2 ∷ 3 ∷ 4 ∷ []) 6 tt k)

@@ -1,5 +1,6 @@
 // The answers of the operations on terms, each as one number for callers in C.
 use admission::Admission;
+use catalogue::Entering;
 use counting::Counted;
 use finishing::Outcome;
 use finishing::Run;
@@ -17,7 +18,8 @@ ghost use Rattle.counting.specs.Answer.{replyOf as countedReply};
 ghost use Rattle.verdicts.specs.Answer.{answerOf as comparingAnswer};
 ghost use Rattle.joining.specs.Answer.{answerOf as joiningAnswer};
 ghost use Rattle.rows.specs.Answer.{answerOf as ringingAnswer};
-ghost use Rattle.codes.specs.Encoding.{outcomeCode, readNumber, stepNumber, finishNumber, compareNumber, joinNumber, rowsNumber};
+ghost use Rattle.catalogue.specs.Answer.{answerOf as catalogueAnswer};
+ghost use Rattle.codes.specs.Encoding.{outcomeCode, readNumber, stepNumber, finishNumber, compareNumber, joinNumber, rowsNumber, enterNumber};
 
 // The number of reading's answer.
 pub fn read_number(answer: Reading) -> u64
@@ -102,5 +104,16 @@ pub fn rows_number(answer: Ringing) -> u64
     match answer {
         Ringing::Rows(count, different) => codes::narrow(130, count, different),
         _ => codes::wide(rows::number(answer), rows::place(answer)),
+    }
+}
+
+// The number of the answer that an entry in the catalogue gets.
+pub fn enter_number(answer: Entering) -> u64
+    ensures { λ r. ⌜ r ≡ enterNumber (catalogueAnswer answer) ⌝ }
+{
+    match answer {
+        Entering::Known(number) => codes::narrow(150, number, 0),
+        Entering::New(number) => codes::narrow(150, number, 0),
+        _ => codes::wide(catalogue::number(answer), catalogue::place(answer)),
     }
 }
