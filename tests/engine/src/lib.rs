@@ -1,4 +1,4 @@
-//! The engine's nine functions as `include/controller.h` declares them, on slices.
+//! The engine's ten functions as `include/controller.h` declares them, on slices.
 
 use harness::subject::Controller;
 use second::comparing::Lent;
@@ -44,6 +44,7 @@ extern "C" {
         area_size: usize,
     ) -> u64;
     fn controller_rows(term: *const u8, term_size: usize, bells: usize, table: *mut u8, table_size: usize) -> u64;
+    fn controller_enter(term: *const u8, term_size: usize, store: *mut u8, store_size: usize) -> u64;
     fn controller_check(file: *const u8, file_size: usize) -> u64;
     fn controller_match(first: *const u8, first_size: usize, second: *const u8, second_size: usize) -> u64;
 }
@@ -102,6 +103,10 @@ impl Controller for Linked {
 
     fn rows(&self, term: &[u8], bells: usize, table: &mut [u8]) -> u64 {
         unsafe { controller_rows(term.as_ptr(), term.len(), bells, table.as_mut_ptr(), table.len()) }
+    }
+
+    fn enter(&self, term: &[u8], store: &mut [u8]) -> u64 {
+        unsafe { controller_enter(term.as_ptr(), term.len(), store.as_mut_ptr(), store.len()) }
     }
 
     fn check(&self, file: &[u8]) -> u64 {

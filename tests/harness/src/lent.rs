@@ -304,6 +304,39 @@ pub fn agree_rows(subject: &dyn Controller, rows: &Rows) -> Outcome {
     demand_rows(subject, rows, &predict_rows(rows))
 }
 
+/// A text, and a store with what lies behind it.
+#[derive(Clone)]
+pub struct Entry {
+    pub term: Vec<u8>,
+    pub store: Vec<u8>,
+}
+
+/// What an entry replies, and the bytes of the store afterwards; the text stays as it is.
+pub type Entered = (u64, Vec<u8>);
+
+/// What the second implementation replies to an entry.
+pub fn predict_entry(entry: &Entry) -> Entered {
+    let mut store = entry.store.clone();
+    (Second::<Plain>::new().enter(&entry.term, &mut store), store)
+}
+
+/// Enters, and demands the reply and every lent byte.
+pub fn demand_entry(subject: &dyn Controller, entry: &Entry, expected: &Entered) -> Outcome {
+    let (mut term, mut store) = (Guarded::new(&entry.term), Guarded::new(&entry.store));
+    let reply = subject.enter(term.area(), store.area());
+    let found = equal("reply", in_words(reply), in_words(expected.0))
+        .and_then(|()| term.expect("term", &entry.term))
+        .and_then(|()| store.expect("store", &expected.1));
+    found.map_err(|what| format!("{what}; entering {} into {} bytes", shown(&entry.term), entry.store.len()))
+}
+
+/// Demands that an entry replies as the second implementation does; what the store holds afterwards.
+pub fn agree_entry(subject: &dyn Controller, entry: &Entry) -> Result<Vec<u8>, String> {
+    let expected = predict_entry(entry);
+    demand_entry(subject, entry, &expected)?;
+    Ok(expected.1)
+}
+
 /// Calls checking on guarded bytes, and demands the reply and that no byte was changed.
 pub fn demand_check(subject: &dyn Controller, file: &[u8], reply: u64) -> Outcome {
     let mut lent = Guarded::new(file);

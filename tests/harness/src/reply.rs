@@ -18,6 +18,7 @@ pub const DIFFERENT: u64 = 114;
 pub const UNDECIDED: u64 = 115;
 pub const ACCEPTED: u64 = 120;
 pub const RUNG: u64 = 130;
+pub const ENTERED: u64 = 150;
 pub const JOINED: u64 = 160;
 pub const MATCH: u64 = 180;
 pub const NO_MATCH: u64 = 181;
@@ -114,6 +115,10 @@ pub fn of_rows(reply: Result<Rung, Refusal>) -> u64 {
     reply.map_or_else(of_refusal, |rung| pack(RUNG, rung.rows as u64, rung.different))
 }
 
+pub fn of_enter(reply: Result<usize, Refusal>) -> u64 {
+    reply.map_or_else(of_refusal, |number| pack(ENTERED, number as u64, 0))
+}
+
 pub fn of_match(reply: Result<bool, Refusal>) -> u64 {
     match reply {
         Ok(true) => pack(MATCH, 0, 0),
@@ -151,6 +156,7 @@ pub fn from_words(words: &str, length: usize) -> u64 {
         (_, "spent") => pack(SPENT, value(), length),
         (_, "no room") => pack(NO_ROOM, value(), length),
         (_, "rung") => pack(RUNG, value(), length),
+        (_, "entered") => pack(ENTERED, value(), 0),
         (_, "accepted") => pack(ACCEPTED, value(), 0),
         _ => panic!("no reply has the words {words}"),
     }

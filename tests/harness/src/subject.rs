@@ -1,6 +1,7 @@
 //! What is under test: the engine's functions and programs, or the second implementation in their place.
 
 use crate::reply::*;
+use second::catalogue;
 use second::checking;
 use second::comparing::{self, Lent};
 use second::counting;
@@ -13,7 +14,7 @@ use second::stepping::{self, Reducer};
 use second::sweeping;
 use std::marker::PhantomData;
 
-/// The nine functions of `include/controller.h`.
+/// The ten functions of `include/controller.h`.
 pub trait Controller {
     fn read(&self, slice: &[u8]) -> u64;
     fn step(&self, area: &mut [u8], term: usize, work: &mut [u8]) -> u64;
@@ -22,6 +23,7 @@ pub trait Controller {
     fn compare(&self, first: Lent, second: Lent, work: &mut [u8], fuel: u64) -> u64;
     fn join(&self, f: &[u8], g: &[u8], area: &mut [u8]) -> u64;
     fn rows(&self, term: &[u8], bells: usize, table: &mut [u8]) -> u64;
+    fn enter(&self, term: &[u8], store: &mut [u8]) -> u64;
     fn check(&self, file: &[u8]) -> u64;
     fn match_claims(&self, first: &[u8], second: &[u8]) -> u64;
 }
@@ -85,6 +87,10 @@ impl<R: Reducer> Controller for Second<R> {
 
     fn rows(&self, term: &[u8], bells: usize, table: &mut [u8]) -> u64 {
         of_rows(rows::ring(term, bells, table))
+    }
+
+    fn enter(&self, term: &[u8], store: &mut [u8]) -> u64 {
+        of_enter(catalogue::enter(term, store))
     }
 
     fn check(&self, file: &[u8]) -> u64 {

@@ -536,6 +536,10 @@ impl<C: Controller> Controller for Wrong<C> {
         (self.bug.reply)((self.bug.rows)(&self.subject, Ringing { term, bells, table }))
     }
 
+    fn enter(&self, term: &[u8], store: &mut [u8]) -> u64 {
+        (self.bug.reply)(self.subject.enter(term, store))
+    }
+
     fn check(&self, file: &[u8]) -> u64 {
         (self.bug.reply)((self.bug.read)(file, self.subject.check(file)))
     }

@@ -176,6 +176,10 @@ impl Controller for Batches {
         Second::<Machine>::new().rows(term, bells, table)
     }
 
+    fn enter(&self, term: &[u8], store: &mut [u8]) -> u64 {
+        Second::<Machine>::new().enter(term, store)
+    }
+
     fn check(&self, file: &[u8]) -> u64 {
         Second::<Machine>::new().check(file)
     }

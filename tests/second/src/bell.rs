@@ -4,7 +4,7 @@
 const LETTERS: [u8; 12] = *b"1234567890ET";
 
 /// A bell, by the place of its letter among the twelve.
-#[derive(Clone, Copy, Debug, PartialEq, Eq)]
+#[derive(Clone, Copy, Debug, PartialEq, Eq, PartialOrd, Ord)]
 pub struct Bell(usize);
 
 impl Bell {

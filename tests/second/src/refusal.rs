@@ -7,7 +7,7 @@ pub struct Refusal {
 }
 
 pub const AREA_TOO_LARGE: u8 = 1;
-/// The work area, or the buffer for the counts.
+/// The work area, the buffer for the counts, or the store of a catalogue.
 pub const LENT_TOO_SHORT: u8 = 2;
 pub const LENGTH_TOO_LARGE: u8 = 3;
 pub const FUEL_TOO_LARGE: u8 = 4;
@@ -29,6 +29,10 @@ pub const NO_CHAIN: u8 = 20;
 /// The bells are no whole number of rows, or the rows are too many.
 pub const NO_TABLE: u8 = 21;
 pub const BAD_ROW: u8 = 22;
+pub const NO_CATALOGUE: u8 = 28;
+/// A full stop stands in a term that is to be entered.
+pub const NOT_NORMAL: u8 = 29;
+pub const CATALOGUE_FULL: u8 = 30;
 pub const JOIN_TOO_LARGE: u8 = 31;
 /// The input of sweep or dearest has another shape, or there are no small terms of that size.
 pub const BAD_SWEEP: u8 = 32;

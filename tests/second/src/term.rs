@@ -4,7 +4,7 @@ use crate::bell::Bell;
 use crate::reading::read;
 use crate::refusal::Refusal;
 
-#[derive(Clone, Debug, PartialEq, Eq)]
+#[derive(Clone, Debug, PartialEq, Eq, PartialOrd, Ord)]
 pub enum Term {
     J,
     R(Box<Term>),
