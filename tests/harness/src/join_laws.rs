@@ -41,12 +41,12 @@ fn length(subject: &dyn Controller) -> Outcome {
 }
 
 /// The text of a join applied to a term.
-fn applied(join: &[u8], t: &[u8]) -> Vec<u8> {
+pub fn applied(join: &[u8], t: &[u8]) -> Vec<u8> {
     joined(&[b".", join, t])
 }
 
 /// Four small terms, among them many closures and many of one or two letters, so that most have a result.
-fn some_terms(random: &mut Random) -> [Term; 4] {
+pub fn some_terms(random: &mut Random) -> [Term; 4] {
     [0; 4].map(|_| match random.below(3) {
         0 => random_of_sizes(random, 1, 7),
         1 => a(random_of_sizes(random, 1, 3), random_of_sizes(random, 1, 5)),
@@ -55,7 +55,7 @@ fn some_terms(random: &mut Random) -> [Term; 4] {
 }
 
 /// The normal term that rules in any order lead to from `f` on `g` on .. `t`, if the search finds one.
-fn result_of(terms: &[&Term]) -> Option<Term> {
+pub fn result_of(terms: &[&Term]) -> Option<Term> {
     let (t, functions) = terms.split_last()?;
     let whole = functions.iter().rev().fold((*t).clone(), |so_far, f| apply((*f).clone(), so_far));
     nearest_normal(&whole, 400, 300).map(|found| found.term)
@@ -82,7 +82,7 @@ fn one_after_the_other(subject: &dyn Controller, [f, g, _, t]: [Term; 4]) -> Res
 }
 
 /// Both groupings of three terms, as the subject joins them.
-fn groupings(subject: &dyn Controller, [f, g, h]: [&[u8]; 3]) -> Result<[Vec<u8>; 2], String> {
+pub fn groupings(subject: &dyn Controller, [f, g, h]: [&[u8]; 3]) -> Result<[Vec<u8>; 2], String> {
     let left = made_by(subject, &made_by(subject, f, g)?, h)?;
     let right = made_by(subject, f, &made_by(subject, g, h)?)?;
     Ok([left, right])

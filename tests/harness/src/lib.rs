@@ -1,5 +1,7 @@
 //! What a subject, the engine or the second implementation, is asked, and what it must reply.
 
+pub mod catalogue_laws;
+pub mod catalogue_tests;
 pub mod chains;
 pub mod changes;
 pub mod check_tests;
@@ -35,6 +37,7 @@ pub mod self_tests;
 pub mod small_lines;
 pub mod small_tests;
 pub mod step_tests;
+pub mod stores;
 pub mod subject;
 pub mod suite;
 pub mod sweep_tests;

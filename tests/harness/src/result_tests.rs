@@ -111,7 +111,7 @@ fn in_any_order(subject: &dyn Controller) -> Outcome {
 }
 
 /// A term that can be turned into this one, by rules used backwards and now and then forwards.
-fn turned(random: &mut Random, normal: &Term) -> Term {
+pub fn turned(random: &mut Random, normal: &Term) -> Term {
     let mut term = normal.clone();
     for _ in 0..random.between(1, 12) {
         match random.once_in(4) {

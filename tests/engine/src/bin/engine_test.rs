@@ -14,8 +14,9 @@ use harness::suite::Suite;
 use harness::wrong::{bugs, Wrong};
 use harness::wrong_batches::{Batches, SLIPS};
 use harness::{
-    check_tests, compare_tests, count_tests, deep, end_tests, finish_tests, huge, join_laws, join_tests,
-    machine_tests, match_tests, read_tests, result_tests, row_laws, row_tests, small_tests, step_tests, threads,
+    catalogue_laws, catalogue_tests, check_tests, compare_tests, count_tests, deep, end_tests, finish_tests, huge,
+    join_laws, join_tests, machine_tests, match_tests, read_tests, result_tests, row_laws, row_tests, small_tests,
+    step_tests, threads,
 };
 
 /// What was written by hand: quick, and enough to see most of the bugs that are planted.
@@ -28,6 +29,7 @@ fn known(suite: &mut Suite, subject: impl Controller + Copy) {
     compare_tests::known(suite, "engine", subject);
     join_tests::known(suite, "engine", subject);
     row_tests::known(suite, "engine", subject);
+    catalogue_tests::known(suite, "engine", subject);
     check_tests::known(suite, "engine", subject);
     match_tests::known(suite, "engine", subject);
     read_tests::made(suite, "engine", subject);
@@ -35,6 +37,7 @@ fn known(suite: &mut Suite, subject: impl Controller + Copy) {
     match_tests::made(suite, "engine", subject);
     join_laws::made(suite, "engine", subject);
     row_laws::made(suite, "engine", subject);
+    catalogue_laws::made(suite, "engine", subject);
     count_tests::made(suite, "engine", subject);
     finish_tests::made(suite, "engine", subject);
     result_tests::made(suite, "engine", subject);
@@ -55,6 +58,7 @@ fn predicted(suite: &mut Suite, subject: impl Controller + Copy) {
     compare_tests::predicted(suite, "engine", subject);
     join_tests::predicted(suite, "engine", subject);
     row_tests::predicted(suite, "engine", subject);
+    catalogue_tests::predicted(suite, "engine", subject);
     check_tests::predicted(suite, "engine", subject);
     match_tests::predicted(suite, "engine", subject);
 }
