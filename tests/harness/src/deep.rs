@@ -4,6 +4,7 @@ use crate::chains::{piece, row_at, table_of, Row};
 use crate::lent::*;
 use crate::reply::from_words;
 use crate::step_tests::padded;
+use crate::stores::store_of;
 use crate::subject::Controller;
 use crate::suite::{Outcome, Suite};
 use crate::table::{checking, reading};
@@ -298,6 +299,57 @@ fn rows(suite: &mut Suite, label: &str, subject: impl Controller + Sync + Copy) 
     suite.test(&format!("{label} deep rows: 1,000 rows in 17,000,000 bytes"), || rung_in_millions(subject));
 }
 
+/// Results of 65,535 or 65,536 letters, deep in every way.
+fn deep_results() -> Vec<Named> {
+    vec![
+        ("R^65535 J", index(65_535)),
+        ("R^65534 0", joined(&[&repeated("R", 65_534), b"0"])),
+        ("H to the left", nested("H", 32_767, "J", 32_768)),
+        ("H to the right", joined(&[&repeated("HJ", 32_767), b"J"])),
+        ("A to the left", nested("A", 32_767, "I", 32_768)),
+        ("A to the right", joined(&[&repeated("AI", 32_767), b"T"])),
+        ("B to the left, bells", nested("B", 32_767, "1", 32_768)),
+        ("32,767 bells", joined(&[&repeated("B5", 32_767), b"I"])),
+    ]
+}
+
+/// A deep result is entered, is known, and leaves no room for another.
+fn entered_deep(subject: impl Controller + Sync, text: &[u8]) -> Outcome {
+    let held = store_of(&[text]);
+    let calls = [
+        (text, vec![0; held.len()], "entered 1"),
+        (text, held.clone(), "entered 1"),
+        (b"RRJ", held.clone(), "30@0"),
+    ];
+    for (term, store, words) in calls {
+        let entry = Entry { term: term.to_vec(), store };
+        on_advised_stack(|| demand_entry(&subject, &entry, &(from_words(words, 0), held.clone())))?;
+    }
+    Ok(())
+}
+
+/// A text of so many letters is refused, and no byte is changed.
+fn refused_deep(subject: impl Controller + Sync, text: &[u8], words: &str) -> Outcome {
+    let words = match words {
+        "whole" if text.contains(&b'.') => "29@0",
+        "whole" => "30@0",
+        _ => words,
+    };
+    let entry = Entry { term: text.to_vec(), store: store_of(&["J", "A0T"]) };
+    let expected = (from_words(words, 0), entry.store.clone());
+    on_advised_stack(|| demand_entry(&subject, &entry, &expected))
+}
+
+/// Entries of deep results, and of texts of a million letters and more.
+fn catalogues(suite: &mut Suite, label: &str, subject: impl Controller + Sync + Copy) {
+    for (name, text) in deep_results() {
+        suite.test(&format!("{label} deep catalogue: {name}"), || entered_deep(subject, &text));
+    }
+    for ((name, text), words) in million_letters() {
+        suite.test(&format!("{label} deep catalogue: {name}"), || refused_deep(subject, &text, words));
+    }
+}
+
 /// Matching of a file with deep terms and types with itself.
 fn matches(suite: &mut Suite, label: &str, subject: impl Controller + Sync + Copy) {
     for row in large_files() {
@@ -315,6 +367,7 @@ pub fn all(suite: &mut Suite, label: &str, subject: impl Controller + Sync + Cop
     comparisons(suite, label, subject);
     joins(suite, label, subject);
     rows(suite, label, subject);
+    catalogues(suite, label, subject);
     files(suite, label, subject);
     matches(suite, label, subject);
 }

@@ -2,6 +2,7 @@
 
 use crate::memory::Pages;
 use crate::reply::{from_words, in_words};
+use crate::stores::{empty, store_of, STORE};
 use crate::subject::Controller;
 use crate::suite::{equal, equal_bytes, Outcome, Suite};
 use second::comparing::Lent;
@@ -87,12 +88,25 @@ pub fn all(suite: &mut Suite, label: &str, subject: impl Controller) {
             replied(subject.rows(b"B1B1I", 2, table), "22@1")
         })
     });
+    catalogues(suite, label, &subject);
     suite.test(&format!("{label} checking: a file of 2^32 and 12 bytes"), || {
         with_huge(OVER + LINE.len(), LINE, |file| replied(subject.check(file), "10@0"))
     });
     suite.test(&format!("{label} matching: a second file of 2^32 and 12 bytes"), || {
         with_huge(OVER + LINE.len(), LINE, |file| replied(subject.match_claims(LINE, file), "10@0"))
     });
+}
+
+/// Entries with a term or a store of over 2^32 bytes.
+pub fn catalogues(suite: &mut Suite, label: &str, subject: &dyn Controller) {
+    suite.test(&format!("{label} catalogue: 2^32 and 1 bytes, a whole term first"), || {
+        with_huge(OVER + 1, b"RJ", |term| {
+            replied(subject.enter(term, &mut [0; 9]), "2@0")?;
+            replied(subject.enter(term, &mut vec![1; STORE]), "28@0")?;
+            replied(subject.enter(term, &mut empty()), "7@2")
+        })
+    });
+    suite.test(&format!("{label} catalogue: a store of 2^32 and 5 bytes"), || entered_far(subject));
 }
 
 /// So many letters at a time make up what is longer than 2^32.
@@ -139,6 +153,33 @@ fn rung_far(subject: &dyn Controller) -> Outcome {
     equal("a byte that is not zero", table[12..PIECE].iter().position(|&byte| byte != 0), None)
 }
 
+/// Entries into a store of 2^32 and 5 bytes. Its pages are one piece again and again; behind the store they stay.
+fn entered_far(subject: &dyn Controller) -> Outcome {
+    let mut pages = Pages::folded(PIECE, OVER / PIECE + 1)?;
+    let store = &mut pages.bytes()[..OVER + 5];
+    store[STORE..PIECE].fill(b'#');
+    for (term, words) in
+        [("J", "entered 1"), ("A0T", "entered 2"), ("J", "entered 1"), (".II", "29@0"), ("Jx", "7@1")]
+    {
+        replied(subject.enter(term.as_bytes(), store), words)?;
+    }
+    equal_bytes("the store", &store[..STORE], &store_of(&["J", "A0T"]))?;
+    equal("a byte behind it that changed", store[STORE..PIECE].iter().position(|&byte| byte != b'#'), None)?;
+    store[STORE - 1] = 1;
+    replied(subject.enter(b"J", store), "28@0")
+}
+
+/// An index of 2^32 and 6 letters: there is no room for it, and none is asked for where there is no catalogue.
+fn index_entered(subject: &dyn Controller) -> Outcome {
+    let mut pages = Pages::repeated(&vec![b'R'; PIECE], OVER / PIECE + 1)?;
+    let index = &mut pages.bytes()[..OVER + 6];
+    index[OVER + 5] = b'J';
+    let mut store = store_of(&["J"]);
+    replied(subject.enter(index, &mut store), "30@0")?;
+    equal_bytes("the store", &store, &store_of(&["J"]))?;
+    replied(subject.enter(index, &mut vec![1; STORE]), "28@0")
+}
+
 /// Reading of over 2^32 letters.
 pub fn far(suite: &mut Suite, label: &str, subject: impl Controller) {
     suite.test(&format!("{label} reading: 2^32 and 5 letters R, and x"), || read_far(&subject));
@@ -155,4 +196,9 @@ pub fn far_joins(suite: &mut Suite, label: &str, subject: impl Controller) {
 /// Rows in a table of over 2^32 bytes.
 pub fn far_rows(suite: &mut Suite, label: &str, subject: impl Controller) {
     suite.test(&format!("{label} rows: a table of 2^32 and 8 bytes"), || rung_far(&subject));
+}
+
+/// An entry of over 2^32 letters.
+pub fn far_catalogue(suite: &mut Suite, label: &str, subject: impl Controller) {
+    suite.test(&format!("{label} catalogue: an index of 2^32 and 6 letters"), || index_entered(&subject));
 }

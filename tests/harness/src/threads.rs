@@ -6,6 +6,7 @@ use crate::derivations::{file_of, some, Layout};
 use crate::lent::*;
 use crate::random::Random;
 use crate::step_tests::call_on;
+use crate::stores::{random_result, store_of};
 use crate::subject::{Controller, Second};
 use crate::suite::{Outcome, Suite};
 use crate::terms::random_of_size;
@@ -22,6 +23,7 @@ enum Asked {
     Compare(Pair, Compared),
     Join(Join, Joined),
     Rows(Rows, Rung),
+    Enter(Entry, Entered),
     Read(Vec<u8>, u64),
     Check(Vec<u8>, u64),
     Match([Vec<u8>; 2], u64),
@@ -35,6 +37,7 @@ impl Asked {
             Asked::Compare(pair, expected) => demand_pair(subject, pair, expected),
             Asked::Join(join, expected) => demand_join(subject, join, expected),
             Asked::Rows(rows, expected) => demand_rows(subject, rows, expected),
+            Asked::Enter(entry, expected) => demand_entry(subject, entry, expected),
             Asked::Read(slice, reply) => demand_read(subject, slice, *reply),
             Asked::Check(file, reply) => demand_check(subject, file, *reply),
             Asked::Match(files, reply) => demand_match(subject, [&files[0], &files[1]], *reply),
@@ -85,7 +88,21 @@ fn rows(random: &mut Random) -> Asked {
     Asked::Rows(rows, expected)
 }
 
-/// One thread's calls: all nine functions in turn.
+/// An entry into a store of a few results: of one of them, of another, or of the text.
+fn enter(random: &mut Random, text: &[u8]) -> Asked {
+    let held: Vec<Vec<u8>> = (5..9).map(|size| random_result(random, size)).collect();
+    let term = match random.below(3) {
+        0 => random.pick(&held).clone(),
+        1 => random_result(random, 10),
+        _ => text.to_vec(),
+    };
+    let more = random.below(20);
+    let entry = Entry { term, store: [store_of(&held), random.rubbish(more)].concat() };
+    let expected = predict_entry(&entry);
+    Asked::Enter(entry, expected)
+}
+
+/// One thread's calls: all ten functions in turn.
 fn calls(seed: u64) -> Vec<Asked> {
     let mut random = Random::new(seed);
     let second = Second::<Plain>::new();
@@ -100,6 +117,7 @@ fn calls(seed: u64) -> Vec<Asked> {
         asked.push(compare(&mut random, &text));
         asked.push(join(&mut random, &text));
         asked.push(rows(&mut random));
+        asked.push(enter(&mut random, &text));
         asked.push(Asked::Read(text.clone(), second.read(&text)));
         asked.push(Asked::Check(file.clone(), second.check(&file)));
         let reply = second.match_claims(&file, &file);
