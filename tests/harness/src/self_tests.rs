@@ -10,6 +10,7 @@ use crate::table::sweeping::TERMS;
 use crate::terms::{all_of_size, random_of_size, texts_of_size, ALL_BELLS, BELLS, NO_BELLS, TWO_BELLS};
 use crate::wrong_batch::Slip;
 use crate::wrong_batches::Batches;
+use crate::wrong_entries;
 use crate::{
     catalogue_laws, catalogue_tests, check_tests, compare_tests, count_tests, dearest_tests, deep, end_tests,
     finish_tests, huge, join_laws, join_tests, machine_rules, machine_tests, match_tests, program_tests,
@@ -265,6 +266,13 @@ fn batches(suite: &mut Suite) {
     machine_rules::made(suite);
 }
 
+/// The catalogue of the tests' own on bytes: without a slip it replies as the one on trees does.
+fn on_bytes(suite: &mut Suite) {
+    let subject = wrong_entries::Wrong { subject: Second::<Machine>::new(), slip: &wrong_entries::NONE };
+    catalogue_tests::known(suite, "on bytes", subject);
+    catalogue_tests::predicted(suite, "on bytes", subject);
+}
+
 /// What the search in every order finds for the terms that tell the order from others.
 fn other_orders(suite: &mut Suite) {
     suite.test("self: one use of a rule, at each full stop that one fits", every_use_of_a_rule);
@@ -295,6 +303,7 @@ pub fn all(suite: &mut Suite) {
     made(suite);
     two_reducers(suite);
     batches(suite);
+    on_bytes(suite);
     suite.test("self: the numbers of terms of each size", numbers_of_terms);
     suite.test("self: the runs of the terms of size 3", runs_of_size_3);
     suite.test("self: every step of every term of up to 7 letters", every_small_step);

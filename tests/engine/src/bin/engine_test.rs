@@ -2,10 +2,10 @@
 //!
 //!   engine_test              every test
 //!   engine_test --batches    the long runs alone
-//!   engine_test --bugs       the names of the bugs that can be planted in the engine's replies, and of the slips in
-//!                            an engine of the tests' own that steps in batches
-//!   engine_test --bug NAME   every test on the engine with that bug; the long runs on the one with that slip; the
-//!                            joins and rows past 2^32 on the one whose bug shows there alone
+//!   engine_test --bugs       the names of the bugs that can be planted in the engine's replies, of the slips in its
+//!                            catalogue, and of those in an engine of the tests' own that steps in batches
+//!   engine_test --bug NAME   every test on the engine with that bug; the catalogue's or the long runs on the one with
+//!                            that slip; what is past 2^32 on the one whose bug shows there alone
 
 use engine::Linked;
 use harness::lent::predict_fast;
@@ -13,6 +13,8 @@ use harness::subject::Controller;
 use harness::suite::Suite;
 use harness::wrong::{bugs, Wrong};
 use harness::wrong_batches::{Batches, SLIPS};
+use harness::wrong_catalogue::Slip;
+use harness::wrong_entries::{self, slips};
 use harness::{
     catalogue_laws, catalogue_tests, check_tests, compare_tests, count_tests, deep, end_tests, finish_tests, huge,
     join_laws, join_tests, machine_tests, match_tests, read_tests, result_tests, row_laws, row_tests, small_tests,
@@ -93,11 +95,28 @@ fn far_tests(subject: impl Controller + Copy) -> i32 {
     suite.end()
 }
 
-/// Every test on the engine with a bug; long runs alone on the one that has a slip in its batches, and joins and
+/// The catalogue alone, or what of it is past 2^32, on the engine with a slip in it.
+fn catalogue_with(slip: &'static Slip) -> i32 {
+    let mut suite = Suite::new();
+    let wrong = wrong_entries::Wrong { subject: Linked, slip };
+    match slip.far {
+        true => {
+            huge::catalogues(&mut suite, "engine", &wrong);
+            huge::far_catalogue(&mut suite, "engine", wrong);
+        }
+        false => catalogue_tests::all(&mut suite, "engine", wrong),
+    }
+    suite.end()
+}
+
+/// Every test on the engine with a bug; the catalogue alone where the slip is in it, long runs alone on the one that has a slip in its batches, and joins and
 /// rows past 2^32 alone where the bug shows nowhere else.
 fn with_bug(name: &str) -> i32 {
     if let Some(&(_, slip)) = SLIPS.iter().find(|slip| slip.0 == name) {
         return batch_tests(Batches { slip });
+    }
+    if let Some(slip) = slips().find(|slip| slip.name == name) {
+        return catalogue_with(slip);
     }
     let bug = bugs().iter().find(|bug| bug.name == name).expect("a bug of that name");
     let wrong = Wrong { subject: Linked, bug };
@@ -113,8 +132,10 @@ fn asked() -> i32 {
         [] => tests(Linked),
         ["--batches"] => batch_tests(Linked),
         ["--bugs"] => {
-            let slips = SLIPS.iter().map(|(name, _)| *name);
-            bugs().iter().map(|bug| bug.name).chain(slips).for_each(|name| println!("{name}"));
+            let in_batches = SLIPS.iter().map(|(name, _)| *name);
+            let in_entries = slips().map(|slip| slip.name);
+            let names = bugs().iter().map(|bug| bug.name).chain(in_entries).chain(in_batches);
+            names.for_each(|name| println!("{name}"));
             0
         }
         ["--bug", name] => with_bug(name),
