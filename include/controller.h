@@ -1,5 +1,5 @@
 /*
- * The engine for the controller's firmware: nine functions on byte pointers and numbers.
+ * The engine for the controller's firmware: ten functions on byte pointers and numbers.
  *
  *     controller_read             is this text one term?                      answers its size
  *     controller_step             one step of a term, in place                answers the rule used
@@ -8,6 +8,7 @@
  *     controller_compare          have two terms the same result?             answers yes, no or not known
  *     controller_join             one piece after another, as one term        answers its size
  *     controller_rows             the rows of a piece, for the hammers        answers how many, and how many differ
+ *     controller_enter            files a result in the catalogue             answers its number there
  *     controller_check            does every line of a derivation follow?     answers how many lines
  *     controller_match            do two derivations claim the same type?     answers yes or no
  *
@@ -22,7 +23,8 @@
  *   Every call returns. It reads and writes nothing but the buffers lent to it and its stack, keeps nothing
  *   between calls and allocates nothing, so several threads may call at once, each with buffers of its own.
  *   A refused call has changed no lent byte. After any other call that lends a term area, the area holds a
- *   term and then zeros to its end, and the work area holds zeros from end to end.
+ *   term and then zeros to its end, and the work area holds zeros from end to end. What a catalogue has to keep
+ *   from call to call stands in the store that the caller lends, and nowhere else.
  *   What a call answers and leaves is proved for all inputs; docs/PROMISES.md says where.
  *
  * RETURNS
@@ -54,7 +56,8 @@ extern "C" {
  */
 #define CONTROLLER_PLACE(reply) ((uint64_t)(reply) >> 8)
 
-/* Of any other answer: a rule's number, or a count of steps, of rows or of lines, as stands with the constant. */
+/* Of any other answer: a rule's number, a count of steps, of rows or of lines, or a number in the catalogue, as stands
+   with the constant. */
 #define CONTROLLER_VALUE(reply) ((uint32_t)(((reply) >> 8) & 0xffffff))
 
 /* Of an answer of controller_step, controller_finish, controller_finish_counted and controller_join: the size of
@@ -73,6 +76,9 @@ enum {
     CONTROLLER_FEWEST_BELLS = 2,     /* bells of a row */
     CONTROLLER_MOST_BELLS = 12,      /* bells of a row, and the bytes that each row has in the table */
     CONTROLLER_MOST_ROWS = 1000,     /* rows of a piece */
+    CONTROLLER_STORE_SIZE = 67584,   /* bytes that a catalogue takes */
+    CONTROLLER_MOST_LETTERS = 65536, /* bytes of the results in a catalogue, all together */
+    CONTROLLER_MOST_ENTRIES = 256,   /* results in a catalogue */
     CONTROLLER_LARGEST_FILE = 65536, /* bytes of a derivation file */
     CONTROLLER_MOST_LINES = 1024     /* lines of a derivation file */
 };
@@ -83,7 +89,8 @@ enum {
 enum {
     CONTROLLER_AREA_TOO_LONG = 1,    /* a term area is longer than CONTROLLER_LARGEST_AREA; place 0 */
     CONTROLLER_WORK_TOO_SHORT = 2,   /* the work area is shorter than a term area, or there are fewer than
-                                        CONTROLLER_COUNTS_SIZE bytes for counts; place 0 */
+                                        CONTROLLER_COUNTS_SIZE bytes for counts, or than CONTROLLER_STORE_SIZE
+                                        for a catalogue; place 0 */
     CONTROLLER_LENGTH_TOO_LONG = 3,  /* a term is said to be longer than its area; place 0 */
     CONTROLLER_FUEL_TOO_HIGH = 4,    /* the fuel is more than CONTROLLER_MOST_FUEL; place 0 */
     CONTROLLER_NO_LETTER = 5,        /* the byte at that place is none of J R H A I B . and no bell: 1 to 9, 0, E, T */
@@ -93,6 +100,10 @@ enum {
     CONTROLLER_NO_TABLE = 21,        /* the bells are no whole number of rows, or more than CONTROLLER_MOST_ROWS, or
                                         more rows than the table holds; place 0 */
     CONTROLLER_BAD_ROW = 22,         /* that row does not hold each of its bells once */
+    CONTROLLER_NO_CATALOGUE = 28,    /* the store holds what no entries leave of zeros; place 0 */
+    CONTROLLER_NOT_NORMAL = 29,      /* a full stop stands in the term: it is not finished; place 0 */
+    CONTROLLER_CATALOGUE_FULL = 30,  /* the result is new, and there is no number left for it, or too few bytes;
+                                        place 0 */
     CONTROLLER_JOIN_TOO_LARGE = 31   /* the join of two terms is larger than the area; place 0 */
 };
 
@@ -216,6 +227,26 @@ enum {
 uint64_t controller_rows(const uint8_t *term, size_t term_size, size_t bells, uint8_t *table, size_t table_size);
 
 /*
+ * Files the result of a finished piece in a catalogue and answers its number there. A result that is in it keeps its
+ * number; any other gets the next one, from 1 on. So two pieces have one number exactly if they can be turned into
+ * each other. Numbers never change, and nothing is taken out. Nothing is run: finish the piece first.
+ *   The store is all that there is of a catalogue, and takes CONTROLLER_STORE_SIZE bytes. A new one is as many zeros.
+ *   Copied away and back, it is the same catalogue. It holds at most CONTROLLER_MOST_ENTRIES results, of at most
+ *   CONTROLLER_MOST_LETTERS bytes together. There may be more bytes: those behind the store may hold anything and
+ *   stay as they are.
+ *   What anything but this function has written into a store is most likely refused by CONTROLLER_NO_CATALOGUE; where
+ *   it is not, the store is one that entries could have left.
+ *   The term may have any size. It is only read.
+ *   Refusals, in this order: CONTROLLER_WORK_TOO_SHORT, CONTROLLER_NO_CATALOGUE, those of controller_read,
+ *   CONTROLLER_NOT_NORMAL, CONTROLLER_CATALOGUE_FULL.
+ *   A refusal changes no byte of the store, and neither does a result that is in it.
+ */
+enum {
+    CONTROLLER_ENTERED = 150         /* the catalogue has the result; CONTROLLER_VALUE is its number */
+};
+uint64_t controller_enter(const uint8_t *term, size_t term_size, uint8_t *store, size_t store_size);
+
+/*
  * Checks a derivation file.
  *   Refusals: CONTROLLER_FILE_TOO_LONG, CONTROLLER_FILE_EMPTY, CONTROLLER_NO_LINE_END,
  *   CONTROLLER_TOO_MANY_LINES, in this order; then the first bad line with the first of
@@ -322,6 +353,13 @@ static inline uint64_t controller_call_rows(const uint8_t *term, size_t term_siz
                            controller_lent(table, table_size), table_size);
 }
 
+static inline uint64_t controller_call_enter(const uint8_t *term, size_t term_size, uint8_t *store,
+                                             size_t store_size)
+{
+    return controller_enter(controller_some(term, term_size), term_size, controller_lent(store, store_size),
+                            store_size);
+}
+
 static inline uint64_t controller_call_check(const uint8_t *file, size_t file_size)
 {
     return controller_check(controller_some(file, file_size), file_size);
@@ -347,6 +385,8 @@ static inline uint64_t controller_call_match(const uint8_t *first, size_t first_
     controller_call_join(f, f_size, g, g_size, area, area_size)
 #define controller_rows(term, term_size, bells, table, table_size) \
     controller_call_rows(term, term_size, bells, table, table_size)
+#define controller_enter(term, term_size, store, store_size) \
+    controller_call_enter(term, term_size, store, store_size)
 #define controller_check(file, file_size) controller_call_check(file, file_size)
 #define controller_match(first, first_size, second, second_size) \
     controller_call_match(first, first_size, second, second_size)

@@ -69,6 +69,12 @@ uint64_t(controller_rows)(const uint8_t *term, size_t term_size, size_t bells, u
     return 9;
 }
 
+uint64_t(controller_enter)(const uint8_t *term, size_t term_size, uint8_t *store, size_t store_size)
+{
+    printf("enter %s %zu %s %zu\n", name_of(term), term_size, name_of(store), store_size);
+    return 10;
+}
+
 uint64_t(controller_check)(const uint8_t *file, size_t file_size)
 {
     printf("check %s %zu\n", name_of(file), file_size);
@@ -117,6 +123,11 @@ int main(void)
     returned(controller_rows(a, 1, 2, NULL, 0));
     returned(controller_rows(NULL, 0, 0, NULL, 0));
     returned(controller_rows(NULL, 7, 8, NULL, 9));
+    returned(controller_enter(a, 1, b, 2));
+    returned(controller_enter(NULL, 0, b, 2));
+    returned(controller_enter(a, 1, NULL, 0));
+    returned(controller_enter(NULL, 0, NULL, 0));
+    returned(controller_enter(NULL, 7, NULL, 8));
     returned(controller_check(a, 1));
     returned(controller_check(NULL, 0));
     returned(controller_match(a, 1, b, 2));
@@ -130,6 +141,8 @@ int main(void)
     returned(controller_rows(a, n++, 0, b, 0));
     returned(controller_rows(a, 0, n++, b, 0));
     returned(controller_rows(a, 0, 0, b, n++));
+    returned(controller_enter(a, n++, b, 0));
+    returned(controller_enter(a, 0, b, n++));
     printf("n is %zu\n", n);
     return 0;
 }

@@ -1,4 +1,4 @@
-/* A host like the firmware. It calls the nine functions on a table of inputs and prints each reply and every
+/* A host like the firmware. It calls the ten functions on a table of inputs and prints each reply and every
  * lent byte afterwards; what it must print is written by hand in expected.txt. It knows the engine from its
  * header alone: no code and no limit stands here as a number.
  *
@@ -23,10 +23,11 @@ static const constant codes[] = {
     CONSTANT(NO_LETTER),      CONSTANT(NOT_WHOLE),      CONSTANT(BEYOND),          CONSTANT(FILE_TOO_LONG),
     CONSTANT(FILE_EMPTY),     CONSTANT(NO_LINE_END),    CONSTANT(TOO_MANY_LINES),  CONSTANT(NOT_SIX_FIELDS),
     CONSTANT(MALFORMED),      CONSTANT(UNKNOWN_RULE),   CONSTANT(BAD_PREMISE),     CONSTANT(NO_INSTANCE),
-    CONSTANT(NO_CHAIN),       CONSTANT(NO_TABLE),       CONSTANT(BAD_ROW),         CONSTANT(JOIN_TOO_LARGE),
-    CONSTANT(NORMAL),         CONSTANT(STEP_NO_ROOM),   CONSTANT(STEPPED),         CONSTANT(WHOLE),
-    CONSTANT(FINISHED),       CONSTANT(SPENT),          CONSTANT(NO_ROOM),         CONSTANT(SAME),
-    CONSTANT(DIFFERENT),      CONSTANT(UNDECIDED),      CONSTANT(ACCEPTED),        CONSTANT(RUNG),
+    CONSTANT(NO_CHAIN),       CONSTANT(NO_TABLE),       CONSTANT(BAD_ROW),         CONSTANT(NO_CATALOGUE),
+    CONSTANT(NOT_NORMAL),     CONSTANT(CATALOGUE_FULL), CONSTANT(JOIN_TOO_LARGE),  CONSTANT(NORMAL),
+    CONSTANT(STEP_NO_ROOM),   CONSTANT(STEPPED),        CONSTANT(WHOLE),           CONSTANT(FINISHED),
+    CONSTANT(SPENT),          CONSTANT(NO_ROOM),        CONSTANT(SAME),            CONSTANT(DIFFERENT),
+    CONSTANT(UNDECIDED),      CONSTANT(ACCEPTED),       CONSTANT(RUNG),            CONSTANT(ENTERED),
     CONSTANT(JOINED),         CONSTANT(MATCH),          CONSTANT(NO_MATCH),
 };
 
@@ -41,6 +42,9 @@ static const constant limits[] = {
     CONSTANT(FEWEST_BELLS),
     CONSTANT(MOST_BELLS),
     CONSTANT(MOST_ROWS),
+    CONSTANT(STORE_SIZE),
+    CONSTANT(MOST_ENTRIES),
+    CONSTANT(MOST_LETTERS),
 };
 
 #define COUNT(table) (sizeof(table) / sizeof(table)[0])
@@ -426,6 +430,109 @@ static void rows_repeated(const char *name, const char *letters, size_t times, s
     free(table);
 }
 
+/* The catalogue: entries into one store, one after the other. Of the store the fronts of two results and the first
+ * letters are printed, and what is behind it; and how many of its bytes are not zero. */
+
+#define FRONTS (8 * CONTROLLER_MOST_ENTRIES)
+
+/* A new store, with # behind it to the end of so many bytes. */
+static uint8_t *store_of(size_t size)
+{
+    uint8_t *store = block("", 0, size, '#');
+    memset(store, 0, CONTROLLER_STORE_SIZE);
+    return store;
+}
+
+static void print_store(const uint8_t *store, size_t size)
+{
+    size_t used = 0;
+    for (size_t place = 0; place < CONTROLLER_STORE_SIZE; place++)
+        used += store[place] != 0;
+    print_bytes("fronts", store, 16);
+    print_bytes("letters", store + FRONTS, 8);
+    printf(" used %zu", used);
+    print_bytes("behind", store + CONTROLLER_STORE_SIZE, size - CONTROLLER_STORE_SIZE);
+}
+
+static void enter_bytes(const char *name, const char *term, size_t term_size, uint8_t *store, size_t store_size)
+{
+    uint8_t *text = block(term, term_size, term_size, 0);
+    printf("enter %s", name);
+    print_reply(controller_enter(text, term_size, store, store_size));
+    print_bytes("term", text, term_size);
+    if (store_size < CONTROLLER_STORE_SIZE)
+        print_bytes("store", store, store_size < 8 ? store_size : 8);
+    else
+        print_store(store, store_size);
+    putchar('\n');
+    free(text);
+}
+
+static void enter(const char *term, uint8_t *store, size_t store_size)
+{
+    enter_bytes(term, term, strlen(term), store, store_size);
+}
+
+/* A new store with one byte another. */
+static void enter_with(size_t place, uint8_t byte, const char *term)
+{
+    uint8_t *store = store_of(CONTROLLER_STORE_SIZE);
+    store[place] = byte;
+    printf("byte %zu is %d, ", place, byte);
+    enter(term, store, CONTROLLER_STORE_SIZE);
+    free(store);
+}
+
+/* A term is finished, and its result is entered. */
+static void finish_and_enter(const char *term, size_t area_size, uint8_t *store, size_t store_size)
+{
+    uint8_t *area = block(term, strlen(term), area_size, '#');
+    uint8_t *work = work_of(area_size);
+    uint64_t reply = controller_finish(area, area_size, strlen(term), work, area_size, CONTROLLER_MOST_FUEL);
+    printf("enter %s finished", term);
+    print_reply(controller_enter(area, CONTROLLER_SIZE(reply), store, store_size));
+    print_bytes("term", area, CONTROLLER_SIZE(reply));
+    putchar('\n');
+    free(area);
+    free(work);
+}
+
+/* An index of so many letters. */
+static void enter_index(size_t size, uint8_t *store, size_t store_size)
+{
+    uint8_t *index = block("", 0, size, 'R');
+    index[size - 1] = 'J';
+    printf("enter an index of %zu letters", size);
+    print_reply(controller_enter(index, size, store, store_size));
+    print_store(store, store_size);
+    putchar('\n');
+    free(index);
+}
+
+/* As many indices as there may be, and one more; then a known one from a copy of the store. */
+static void enter_many(void)
+{
+    uint8_t *store = store_of(CONTROLLER_STORE_SIZE);
+    uint8_t *copy = store_of(CONTROLLER_STORE_SIZE);
+    uint8_t *index = block("", 0, CONTROLLER_MOST_ENTRIES + 1, 'R');
+    size_t given = 0;
+    index[CONTROLLER_MOST_ENTRIES] = 'J';
+    for (size_t size = 1; size <= CONTROLLER_MOST_ENTRIES; size++) {
+        const uint8_t *text = index + CONTROLLER_MOST_ENTRIES + 1 - size;
+        given += CONTROLLER_VALUE(controller_enter(text, size, store, CONTROLLER_STORE_SIZE)) == size;
+    }
+    printf("enter %d indices: %zu have their numbers; then", (int)CONTROLLER_MOST_ENTRIES, given);
+    print_reply(controller_enter(index, CONTROLLER_MOST_ENTRIES + 1, store, CONTROLLER_STORE_SIZE));
+    memcpy(copy, store, CONTROLLER_STORE_SIZE);
+    print_reply(controller_enter(index + 1, CONTROLLER_MOST_ENTRIES, copy, CONTROLLER_STORE_SIZE));
+    printf(" %s", memcmp(copy, store, CONTROLLER_STORE_SIZE) == 0 ? "unchanged" : "CHANGED");
+    print_store(store, CONTROLLER_STORE_SIZE);
+    putchar('\n');
+    free(store);
+    free(copy);
+    free(index);
+}
+
 /* Checking of a file and of one byte again and again; matching of two files. */
 
 static void check_bytes(const char *name, const char *file, size_t size)
@@ -705,6 +812,53 @@ static void long_pieces(void)
     rows_repeated("B2B1^1000000", "B2B1", 1000000, 2, 12000);
 }
 
+/* Too few bytes, then no catalogue, then the term, then its full stops, then the room. */
+static void entries(void)
+{
+    size_t size = CONTROLLER_STORE_SIZE, longer = size + 3;
+    uint8_t *store = store_of(longer);
+    enter("J", store, size);
+    enter("I", store, size);
+    enter("J", store, longer);
+    enter("A0T", store, longer);
+    enter("A15", store, longer);
+    enter("A0T", store, size);
+    enter(".II", store, longer);
+    enter("Jx", store, size);
+    enter("xJ", store, size);
+    enter("", store, size);
+    enter(".I", store, size);
+    enter_bytes("J and a NUL", "J\0", 2, store, size);
+    finish_and_enter(".II", 3, store, size);
+    finish_and_enter(".BII.JRJ", 12, store, size);
+    finish_and_enter(".1T", 3, store, size);
+    finish_and_enter(".BJI.1T", 11, store, size);
+    enter("J", store, size - 1);
+    enter(".Ix", store, size - 1);
+    enter("J", store, 5);
+    enter("J", store, 0);
+    free(store);
+    store = store_of(size);
+    enter("BARJIAJJ", store, size);
+    enter("ARJRRRHII", store, size);
+    free(store);
+    enter_with(0, 74, "J");
+    enter_with(4, 1, ".II");
+    enter_with(FRONTS - 1, 1, "Jx");
+    enter_with(FRONTS, 'J', "J");
+    enter_with(size - 1, 255, "");
+    store = store_of(size);
+    enter_index(CONTROLLER_MOST_LETTERS + 1, store, size);
+    enter_index(CONTROLLER_MOST_LETTERS - 2, store, size);
+    enter_index(3, store, size);
+    enter_index(2, store, size);
+    enter_index(1, store, size);
+    enter_index(CONTROLLER_MOST_LETTERS - 2, store, size);
+    enter(".II", store, size);
+    free(store);
+    enter_many();
+}
+
 #define LINE_J "*a1\tJ\ta\tJ\t-\t-\n"
 #define LINE_I "1\tI\t1\tI\t-\t-\n"
 #define LINE_K "1\t1\tb\tK\t-\t-\n"
@@ -753,6 +907,7 @@ static void nulls(void)
     uint8_t area[] = {'J', '#', '#'};
     uint8_t work[] = {'w', 'w', 'w'};
     uint8_t *counts = counts_of(CONTROLLER_COUNTS_SIZE);
+    uint8_t *store = store_of(CONTROLLER_STORE_SIZE);
     const uint8_t *file = (const uint8_t *)LINE_I;
     size_t file_size = strlen(LINE_I);
     printf("read null");
@@ -790,6 +945,12 @@ static void nulls(void)
     print_reply(controller_rows((const uint8_t *)"B1B2I", 5, 2, NULL, 0));
     printf("\nrows null into null");
     print_reply(controller_rows(NULL, 0, 13, NULL, 0));
+    printf("\nenter J into null");
+    print_reply(controller_enter(area, 1, NULL, 0));
+    printf("\nenter null into null");
+    print_reply(controller_enter(NULL, 0, NULL, 0));
+    printf("\nenter null");
+    print_reply(controller_enter(NULL, 0, store, CONTROLLER_STORE_SIZE));
     printf("\ncheck null");
     print_reply(controller_check(NULL, 0));
     printf("\nmatch null and a file");
@@ -800,6 +961,7 @@ static void nulls(void)
     print_bytes("work", work, sizeof work);
     putchar('\n');
     free(counts);
+    free(store);
 }
 
 /* The functions themselves, by their addresses. */
@@ -809,6 +971,7 @@ static void pointers(void)
     uint64_t (*reading)(const uint8_t *, size_t) = controller_read;
     uint64_t (*joining)(const uint8_t *, size_t, const uint8_t *, size_t, uint8_t *, size_t) = &controller_join;
     uint64_t (*ringing)(const uint8_t *, size_t, size_t, uint8_t *, size_t) = &controller_rows;
+    uint64_t (*entering)(const uint8_t *, size_t, uint8_t *, size_t) = &controller_enter;
     uint8_t table[] = {'#', '#', '#'};
     uint8_t area[] = {'.', 'I', 'J'};
     uint8_t both[2 + CONTROLLER_JOIN_FRAME];
@@ -821,6 +984,9 @@ static void pointers(void)
     printf("\nrows through a pointer");
     print_reply(ringing(area + 1, 1, CONTROLLER_MOST_BELLS, table, sizeof table));
     print_bytes("table", table, sizeof table);
+    printf("\nenter through a pointer");
+    print_reply(entering(area + 1, 1, table, sizeof table));
+    print_bytes("store", table, sizeof table);
     printf("\nstep through a pointer");
     print_reply(stepping(area, sizeof area, sizeof area, work, sizeof work));
     print_bytes("area", area, sizeof area);
@@ -835,6 +1001,8 @@ int main(int count, char **words)
     constants();
     if (CONTROLLER_COUNTS_SIZE != 4 * CONTROLLER_RULES)
         return 1;
+    if (CONTROLLER_STORE_SIZE != FRONTS + CONTROLLER_MOST_LETTERS)
+        return 1;
     readings();
     steps();
     step_refusals();
@@ -845,6 +1013,7 @@ int main(int count, char **words)
     comparisons();
     joins();
     pieces();
+    entries();
     checks();
     matches();
     nulls();
