@@ -2,20 +2,22 @@
 //!
 //!   bench [PICTURE.svg]     every table, and a chart where a path is given
 //!   bench --dear [STEPS]    every run of finishing that was tried to find the dearest, with so much fuel or with all
-//!   bench --only TABLE      one table: growth, small, short, counting, joining, rows, sweep, dearest, checking, stack
-//!                           or dear
+//!   bench --only TABLE      one table: growth, small, short, counting, joining, rows, catalogue, sweep, dearest,
+//!                           checking, stack or dear
 //!   bench --rows WORD       the rows of the first table whose names have this word
 //!
 //! Both are built for release. Each call starts from the term with zeros behind it and a zeroed work area. Built with
 //! CONTROLLER_DIR set, it times the archive in that folder.
 
 mod batched;
+mod catalogue;
 mod chart;
 mod checking;
 mod counting;
 mod dear;
 mod dear_runs;
 mod dearest;
+mod entering;
 mod growth;
 mod joining;
 mod reducing;
@@ -33,13 +35,15 @@ mod timing;
 use reducing::Timed;
 use table::Table;
 
-/// The tables behind the first two, each with its name.
-const TABLES: [(&str, fn() -> Table); 10] = [
+/// The tables behind the first two, each with its name; two of them share one.
+const TABLES: [(&str, fn() -> Table); 12] = [
     ("small", small::table),
     ("short", short_runs::table),
     ("counting", counting::table),
     ("joining", joining::table),
     ("rows", rows::table),
+    ("catalogue", catalogue::table),
+    ("catalogue", catalogue::growth),
     ("sweep", sweeping::table),
     ("dearest", dearest::table),
     ("checking", checking::table),
@@ -62,8 +66,9 @@ fn everything(picture: Option<&str>) {
 
 fn only(name: &str) {
     let tables = [("growth", growth::alone as fn() -> Table)].into_iter().chain(TABLES);
-    let (_, table) = tables.into_iter().find(|table| table.0 == name).expect("a table of that name");
-    println!("{}", table().text());
+    let named: Vec<_> = tables.filter(|table| table.0 == name).collect();
+    assert!(!named.is_empty(), "a table of that name");
+    named.iter().for_each(|(_, table)| println!("{}", table().text()));
 }
 
 fn run() {

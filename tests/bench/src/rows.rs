@@ -11,7 +11,7 @@ use second::refusal::*;
 use second::rows::{Rung, FEWEST_BELLS, MOST_BELLS, MOST_ROWS};
 
 /// Is the slice the text of one term?
-fn read(term: &[u8]) -> Result<(), Refusal> {
+pub fn read(term: &[u8]) -> Result<(), Refusal> {
     let mut owed = 1usize;
     for (place, byte) in term.iter().enumerate() {
         if owed == 0 {
