@@ -11,6 +11,7 @@ use harness::end_tests::PLACES;
 use harness::machine_runs::OMEGA;
 use harness::memory::Pages;
 use harness::runs::{all_pending, in_pairs, inert, nested_uses, swings};
+use harness::stores::{alike, empty, store_of, MOST_RESULTS};
 use harness::subject::Controller;
 use harness::terms::{joined, twice_nested};
 use second::comparing::Lent;
@@ -143,18 +144,51 @@ fn ringing_of(text: Vec<u8>, bells: usize) -> String {
     })
 }
 
+/// A term entered into an empty catalogue: one with full stops is refused.
+fn entering(lent: Lending) -> String {
+    entering_into(empty(), lent.text)
+}
+
+fn entering_into(mut store: Vec<u8>, text: Vec<u8>) -> String {
+    used(move || {
+        Linked.enter(&text, &mut store);
+    })
+}
+
 /// A piece of as many rows as there may be, which is longer than a term area.
 fn piece_row(name: &str, rows: Vec<Row>) -> Vec<String> {
     let (text, bells) = (piece(&rows), rows[0].len());
-    let reading = reading(Lending { name: String::new(), text: text.clone(), area: 0, fuel: 0 });
+    let lent = Lending { name: String::new(), text: text.clone(), area: 0, fuel: 0 };
     let none = || "-".to_string();
-    let letters = text.len().to_string();
-    vec![name.to_string(), letters, reading, none(), none(), none(), none(), none(), ringing_of(text, bells)]
+    let [letters, reading, entering] = [text.len().to_string(), reading(lent.clone()), entering(lent)];
+    vec![
+        name.to_string(),
+        letters,
+        reading,
+        none(),
+        none(),
+        none(),
+        none(),
+        none(),
+        ringing_of(text, bells),
+        entering,
+    ]
+}
+
+/// The last of these results, new in a store that holds the others and known in one that holds it too.
+fn store_rows(name: &str, results: &[Vec<u8>]) -> Vec<Vec<String>> {
+    let (last, others) = results.split_last().expect("a store of results");
+    let row = |entry: &str, store: Vec<u8>| {
+        let words = [format!("store: {name}, {entry}"), last.len().to_string()];
+        let none = std::iter::repeat("-".to_string()).take(7);
+        words.into_iter().chain(none).chain([entering_into(store, last.clone())]).collect()
+    };
+    vec![row("new", store_of(others)), row("known", store_of(results))]
 }
 
 fn term_row(lent: Lending) -> Vec<String> {
     let (name, letters) = (lent.name.clone(), lent.text.len().to_string());
-    let used = [reading, stepping, finishing, counting, comparing, joining, ringing]
+    let used = [reading, stepping, finishing, counting, comparing, joining, ringing, entering]
         .map(|operation| operation(lent.clone()));
     [name, letters].into_iter().chain(used).collect()
 }
@@ -192,7 +226,7 @@ fn file_row(name: &str, file: Vec<u8>) -> Vec<String> {
         Linked.match_claims(&other, &other);
     });
     let none = || "-".to_string();
-    vec![name.to_string(), bytes, none(), none(), checking, none(), matching, none(), none()]
+    vec![name.to_string(), bytes, none(), none(), checking, none(), matching, none(), none(), none()]
 }
 
 pub fn table() -> Table {
@@ -204,6 +238,7 @@ pub fn table() -> Table {
         (0..1_000).map(|number| row_at(12, number)).collect(),
     ));
     rows.push(piece_row("piece: 1,000 rows, all equal", vec![row_at(12, 0); 1_000]));
+    rows.extend(store_rows("256 of 254, one fingerprint", &alike(MOST_RESULTS, 254, false)));
     rows.extend(deep_bells().into_iter().map(deep).chain(long_runs()).map(term_row));
     Table::new(
         "Bytes of stack that a call of the engine uses",
@@ -217,6 +252,7 @@ pub fn table() -> Table {
             "comparing or matching",
             "joining",
             "rows",
+            "entering",
         ],
         rows,
     )
