@@ -180,7 +180,7 @@ fn store_rows(name: &str, results: &[Vec<u8>]) -> Vec<Vec<String>> {
     let (last, others) = results.split_last().expect("a store of results");
     let row = |entry: &str, store: Vec<u8>| {
         let words = [format!("store: {name}, {entry}"), last.len().to_string()];
-        let none = std::iter::repeat("-".to_string()).take(7);
+        let none = std::iter::repeat_n("-".to_string(), 7);
         words.into_iter().chain(none).chain([entering_into(store, last.clone())]).collect()
     };
     vec![row("new", store_of(others)), row("known", store_of(results))]
