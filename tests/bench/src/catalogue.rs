@@ -1,7 +1,7 @@
 //! Entries into a catalogue: microseconds of a call beside one that keeps slices in a vector the way a Rust program
 //! does, and the part of it that the test of the store alone takes.
 
-use crate::entering::plainly;
+use crate::entering::{at_once, one_by_one, plainly};
 use crate::table::{number, Table};
 use crate::timing::shortest;
 use engine::Linked;
@@ -55,11 +55,21 @@ struct Entry {
     reply: u64,
 }
 
-/// The times of one entry in nanoseconds: the engine and Rust.
+/// The times of one entry in nanoseconds: the engine, Rust that tests zeros one by one, and Rust that tests them at
+/// once.
 #[derive(Clone, Copy)]
 struct Times {
     engine: f64,
     rust: f64,
+    faster: f64,
+}
+
+impl Times {
+    /// In microseconds, and the engine's divided by those of Rust.
+    fn cells(self) -> [String; 5] {
+        let Times { engine, rust, faster } = self;
+        [engine / 1e3, rust / 1e3, engine / rust, faster / 1e3, engine / faster].map(number)
+    }
 }
 
 fn refused(number: u8) -> u64 {
@@ -92,15 +102,16 @@ impl Entry {
     /// The engine and Rust are timed in turn.
     fn times(&self) -> Times {
         self.leave_the_same();
-        let mut times = Times { engine: f64::INFINITY, rust: f64::INFINITY };
+        let mut times = Times { engine: f64::INFINITY, rust: f64::INFINITY, faster: f64::INFINITY };
         for _ in 0..TURNS {
             times.engine = times.engine.min(self.time(|term, store| Linked.enter(term, store)));
-            times.rust = times.rust.min(self.time(|term, store| of_enter(plainly(term, store))));
+            times.rust = times.rust.min(self.time(|term, store| of_enter(plainly(one_by_one, term, store))));
+            times.faster = times.faster.min(self.time(|term, store| of_enter(plainly(at_once, term, store))));
         }
         times
     }
 
-    /// Both reply as expected and leave the same bytes, and the same in stores with a byte damaged.
+    /// All reply as expected and leave the same bytes, and the same in stores with a byte damaged.
     fn leave_the_same(&self) {
         assert_eq!(replies_alike(&self.term, &self.store), self.reply, "{}: the reply", self.name);
         let mut random = Random::new(self.letters as u64);
@@ -118,14 +129,15 @@ const TURNS: usize = 5;
 /// Stores with a damaged byte that are tried for each entry.
 const DAMAGES: usize = 50;
 
-/// The one reply of both, which leave the same bytes in the store and behind it.
+/// The one reply of all three, which leave the same bytes in the store and behind it.
 fn replies_alike(term: &[u8], store: &[u8]) -> u64 {
     let lent = joined(&[store, b"#####"]);
-    let mut stores = [lent.clone(), lent];
+    let mut stores = [lent.clone(), lent.clone(), lent];
     let engine = Linked.enter(term, &mut stores[0]);
-    let rust = of_enter(plainly(term, &mut stores[1]));
-    assert_eq!(in_words(engine), in_words(rust), "one reply");
-    assert!(stores[0] == stores[1], "both leave the same bytes");
+    let rust = of_enter(plainly(one_by_one, term, &mut stores[1]));
+    let faster = of_enter(plainly(at_once, term, &mut stores[2]));
+    assert_eq!([rust, faster].map(in_words), [engine, engine].map(in_words), "one reply");
+    assert!(stores[0] == stores[1] && stores[0] == stores[2], "all leave the same bytes");
     engine
 }
 
@@ -213,8 +225,7 @@ impl Case {
                 true => "-".to_string(),
                 false => number(test.engine / times.engine),
             };
-            let times = [times.engine / 1e3, times.rust / 1e3, times.engine / times.rust].map(number);
-            words.into_iter().chain(sizes).chain(times).chain([part]).collect()
+            words.into_iter().chain(sizes).chain(times.cells()).chain([part]).collect()
         };
         self.entries().into_iter().map(row).collect()
     }
@@ -237,9 +248,21 @@ fn cases() -> Vec<Case> {
 pub fn table() -> Table {
     refuse_alike();
     Table::new(
-        "Microseconds of one entry into a catalogue beside Rust that keeps slices in a vector; test/engine is the part \
-         of a call refused by 29, which tests the store and reads three letters",
-        &["store", "entry", "results", "letters", "term", "engine", "Rust", "engine/Rust", "test/engine"],
+        "Microseconds of one entry into a catalogue beside Rust that keeps slices in a vector and tests zeros one by one \
+         or at once; test/engine is the part of a call refused by 29, which tests the store and reads three letters",
+        &[
+            "store",
+            "entry",
+            "results",
+            "letters",
+            "term",
+            "engine",
+            "Rust",
+            "engine/Rust",
+            "at once",
+            "engine/at once",
+            "test/engine",
+        ],
         cases().iter().flat_map(Case::rows).collect(),
     )
 }
@@ -254,45 +277,38 @@ const GROWING: [(&str, &[usize], Make); 4] = [
     ("one fingerprint, more results of 254", &[16, 64, 256], |count| alike(count, USUAL, false)),
 ];
 
-/// The test of the store and a known result, and how their times grow from one store to the next.
+/// The test of the store, and how its time grows from one store to the next.
 fn growing((name, sizes, make): (&str, &[usize], Make)) -> Vec<Vec<String>> {
-    let mut before: Option<[f64; 4]> = None;
+    let mut before = None;
     let row = |&size: &usize| {
-        let results = make(size);
-        let test = Entry::test(&results);
-        let [tested, known] = [&test, &Entry::known("known", &results, results.len() - 1)].map(Entry::times);
-        let now = [tested.engine, tested.rust, known.engine, known.rust];
-        let grown = |place: usize| before.map_or("-".to_string(), |before| number(now[place] / before[place]));
-        let part = |times: Times, place: usize| {
-            let ratio = number(times.engine / times.rust);
-            [number(times.engine / 1e3), number(times.rust / 1e3), ratio, grown(place), grown(place + 1)]
-        };
-        let row = [name.to_string(), test.results.to_string(), test.letters.to_string()];
-        let row = row.into_iter().chain(part(tested, 0)).chain(part(known, 2)).collect();
-        before = Some(now);
-        row
+        let test = Entry::test(&make(size));
+        let now = test.times();
+        let before = before.replace(now);
+        let grown =
+            |time: fn(Times) -> f64| before.map_or("-".to_string(), |before| number(time(now) / time(before)));
+        let words = [name.to_string(), test.results.to_string(), test.letters.to_string()];
+        let growth = [grown(|times| times.engine), grown(|times| times.rust), grown(|times| times.faster)];
+        words.into_iter().chain(now.cells()).chain(growth).collect()
     };
     sizes.iter().map(row).collect()
 }
 
 pub fn growth() -> Table {
     Table::new(
-        "Microseconds of the test of a store (an entry refused by 29) and of an entry of its last result, as stores \
-         grow; growth is from the row before, which has a quarter of the letters or of the results",
+        "Microseconds of the test of a store (an entry refused by 29) as stores grow; growth is from the row before, \
+         which has a quarter of the letters or of the results",
         &[
             "store",
             "results",
             "letters",
-            "test: engine",
+            "engine",
             "Rust",
             "engine/Rust",
+            "at once",
+            "engine/at once",
             "growth: engine",
             "Rust",
-            "known: engine",
-            "Rust",
-            "engine/Rust",
-            "growth: engine",
-            "Rust",
+            "at once",
         ],
         GROWING.into_iter().flat_map(growing).collect(),
     )

@@ -24,8 +24,14 @@ fn read_result(text: &[u8]) -> Result<(), Refusal> {
     }
 }
 
-fn all_zeros(bytes: &[u8]) -> bool {
+/// Whether bytes are all zeros: one after the other up to the first that is none, as most would write it.
+pub fn one_by_one(bytes: &[u8]) -> bool {
     bytes.iter().all(|&byte| byte == 0)
+}
+
+/// The same without a look at each, which the compiler makes of whole registers.
+pub fn at_once(bytes: &[u8]) -> bool {
+    bytes.iter().fold(0, |so_far, &byte| so_far | byte) == 0
 }
 
 /// The fingerprint and the size in front of the texts.
@@ -41,7 +47,7 @@ fn place_of(held: &[Held], fingerprint: u32, text: &[u8]) -> Option<usize> {
 }
 
 /// The results of a store, or nothing where no entries leave it.
-fn held_in(store: &[u8]) -> Option<Vec<Held<'_>>> {
+fn held_in(store: &[u8], all_zeros: impl Fn(&[u8]) -> bool) -> Option<Vec<Held<'_>>> {
     let (fronts, mut texts) = store.split_at(TEXTS);
     let mut held: Vec<Held> = Vec::with_capacity(MOST_RESULTS);
     for front in fronts.chunks_exact(FRONT) {
@@ -61,9 +67,9 @@ fn held_in(store: &[u8]) -> Option<Vec<Held<'_>>> {
 }
 
 /// The number of a term in the catalogue of a store, into which it is written where it is new.
-pub fn plainly(term: &[u8], lent: &mut [u8]) -> Result<usize, Refusal> {
+pub fn plainly(all_zeros: impl Fn(&[u8]) -> bool, term: &[u8], lent: &mut [u8]) -> Result<usize, Refusal> {
     let store = lent.get_mut(..STORE).ok_or(without_place(LENT_TOO_SHORT))?;
-    let held = held_in(store).ok_or(without_place(NO_CATALOGUE))?;
+    let held = held_in(store, all_zeros).ok_or(without_place(NO_CATALOGUE))?;
     read_result(term)?;
     let fingerprint = fingerprint(term);
     if let Some(place) = place_of(&held, fingerprint, term) {
