@@ -1,37 +1,36 @@
 -- A store looked at result by result. Where it begins with the results of a catalogue, the search finds their numbers; and what is read of it
 -- so far is the beginning of whatever catalogue it may keep. Assumes nothing.
-use Prim.Native.Nat.{ℕ, zero, suc, _+_, _*_, _-_, _≤_, _<_}
+use Prim.Native.Nat.{ℕ, suc, _+_, _*_, _-_, _≤_, _<_}
 use native.Mathlib.Decide.{decLe}
 use native.Mathlib.Omega.{arith}
-use native.Mathlib.Numerals.{add-one}
 use mathlib.Core.Path.{_≡_, refl, sym, _∙_, ap, ap₂, subst}
 use mathlib.Core.Bool.{Bool, true, false, cond, not, _&&_, false≢true}
 use mathlib.Core.Logic.{_⊎_, inl, inr}
-use mathlib.Core.List.{List, [], _∷_, _++_, List·Memᴰ}
+use mathlib.Core.List.{List, [], _∷_}
 use mathlib.Core.Option.{Option, none, some}
-use borrow.Author.Tests.{lt-ltb, le-ltb, le-leb, lt-leb, leb-true, eq-eqb, ne-eqb, eqb-true}
-use lib.Dec.{ltb, leb, eqb}
-use lib.ListN.{length, take, drop, replicate, getD, length-take}
-use lib.Seq.{take-take, take-all}
+use borrow.Author.Tests.{le-leb, leb-true, eq-eqb, eqb-true}
+use lib.Dec.{eqb}
+use lib.ListN.{length, take, replicate, getD, length-take}
+use lib.Seq.{take-take}
 use Rattle.calculus.specs.Term.{Term, text, size, Normal}
 use Rattle.calculus.specs.Parse.{termOf}
 use Rattle.calculus.proofs.PrefixCode.{termOf-text, text-termOf, length-text, text-injective, size-positive}
 use Rattle.slices.specs.Part.{part}
 use Rattle.slices.specs.Same.{same}
-use Rattle.slices.proofs.Part.{part-empty, part-length, part-part, part-front}
+use Rattle.slices.proofs.Part.{part-empty, part-length}
 use Rattle.slices.proofs.Decimal.{and-both}
-use Rattle.slices.proofs.Same.{same-refl, equal-same, same-equal}
-use Rattle.words.specs.Word.{wordLimit, wordOf, wordIn, wordAt}
+use Rattle.slices.proofs.Same.{equal-same, same-equal}
+use Rattle.words.specs.Word.{wordOf, wordAt}
 use Rattle.words.proofs.At.{word-known}
 use Rattle.fingerprints.specs.Print.{printOf}
 use Rattle.fingerprints.proofs.Printing.{print-small}
 use Rattle.reading.specs.Stop.{hasStop}
 use Rattle.reading.proofs.Stops.{no-stop-normal, stop-not-normal}
-use Rattle.entries.specs.Catalogue.{entryLimit, letterLimit, letters, Room, Catalogue, numberOf}
-use Rattle.entries.specs.Store.{entrySize, textsAt, storeSize, storeOf, entriesOf, textsOf}
+use Rattle.entries.specs.Catalogue.{entryLimit, letterLimit, letters, Catalogue, numberOf}
+use Rattle.entries.specs.Store.{entrySize, textsAt, storeSize, storeOf}
 use Rattle.entries.specs.EntersAs.{Keeps}
 use Rattle.entries.proofs.Numbers.{number-none, none-number, catalogue-fits}
-use Rattle.entries.proofs.Later.{Later, later-all, later-long}
+use Rattle.entries.proofs.Later.{Later, later-all}
 use Rattle.entries.proofs.Laid.{
   Begins,
   Laid,
@@ -47,7 +46,7 @@ use Rattle.entries.proofs.Laid.{
 use Rattle.entries.proofs.Back.{unused-word}
 use Rattle.stores.specs.Search.{sizeAt, isAt, foundIn, numberIn, isNormal, isResult, follows}
 use Rattle.stores.specs.Kept.{KeepsSome}
-use Rattle.stores.proofs.Searching.{size-there, size-none, number-inside, result, fits, printed, fresh, tests}
+use Rattle.stores.proofs.Searching.{size-there, size-none, number-inside, fits, printed, fresh, tests}
 
 -- ---- what stands at a result's place, read
 

@@ -1,5 +1,5 @@
 -- `stores::is_result` meets its contract: what reading refuses is no term, and of a term the full stop decides. Assumes nothing.
-use mathlib.Core.Bool.{Bool, not}
+use mathlib.Core.Bool.{not}
 use mathlib.Core.Path.{sym, _∙_, ap}
 use borrow.Author.Needs.{needs}
 use Rattle.reading.specs.Answer.{answerOf as readingAnswer}

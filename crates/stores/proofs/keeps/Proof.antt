@@ -1,6 +1,6 @@
 -- `stores::keeps` meets its contract. The loop's invariant is `Replayed`: so many results are read, and any catalogue that the store keeps
 -- goes on from them. The measure is how many entries are left. Assumes nothing.
-use Prim.Native.Nat.{ℕ, _+_, _-_, _<_, _≤_}
+use Prim.Native.Nat.{ℕ, _-_, _<_, _≤_}
 use mathlib.Core.Path.{_≡_, sym, _∙_, ap}
 use mathlib.Core.Bool.{Bool}
 use mathlib.Core.List.{List}
@@ -11,7 +11,7 @@ use lib.ListN.{length, replicate, getD}
 use Rattle.slices.specs.Same.{same}
 use Rattle.entries.specs.Catalogue.{entryLimit, letterLimit}
 use Rattle.entries.specs.Store.{storeSize}
-use Rattle.stores.specs.Search.{sizeAt, follows}
+use Rattle.stores.specs.Search.{sizeAt}
 use Rattle.stores.proofs.Replaying.{
   Replayed,
   replay-start,

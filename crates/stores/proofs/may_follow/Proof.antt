@@ -1,15 +1,12 @@
 -- `stores::may_follow` meets its contract, test by test; the text is the part of the store that was cut. Assumes nothing.
 use Prim.Native.Nat.{ℕ}
-use mathlib.Core.Path.{_≡_, sym, _∙_, ap, ap₂}
-use mathlib.Core.Bool.{Bool}
-use mathlib.Core.List.{List}
-use native.Mathlib.Omega.{arith}
+use mathlib.Core.Path.{sym, _∙_, ap, ap₂}
 use borrow.Author.Needs.{needs}
 use borrow.Author.Tests.{not-true, not-false}
 use lib.Dec.{eqb}
 use Rattle.fingerprints.specs.Print.{printOf}
 use Rattle.stores.specs.Search.{numberIn, isResult}
-use Rattle.stores.proofs.Searching.{result, too-long, no-result, other-print, print-agrees}
+use Rattle.stores.proofs.Searching.{too-long, no-result, other-print, print-agrees}
 use Rattle.stores.proofs.may_follow.Statement.{statement}
 use Rattle.stores.proofs.may_follow.Tie as tie
 

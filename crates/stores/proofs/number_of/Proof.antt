@@ -1,11 +1,11 @@
 -- `stores::number_of` meets its contract. The loop's invariant: what is not yet looked at, with its end, has the number that all have. The
 -- measure is how many are left. Assumes nothing.
 use Prim.Native.Nat.{_-_, _≤_}
-use mathlib.Core.Path.{_≡_, refl, sym, _∙_, ap}
+use mathlib.Core.Path.{_≡_, sym, _∙_, ap}
 use native.Mathlib.Omega.{arith}
 use borrow.Author.Needs.{needs}
 use Rattle.entries.specs.Catalogue.{entryLimit, letterLimit}
-use Rattle.stores.specs.Search.{sizeAt, isAt, foundIn, numberIn}
+use Rattle.stores.specs.Search.{foundIn, numberIn}
 use Rattle.stores.proofs.Searching.{number-inside, number-past-count, number-past-used, found-here, found-before, found-end}
 use Rattle.stores.proofs.number_of.Statement.{statement}
 use Rattle.stores.proofs.number_of.Tie as tie
