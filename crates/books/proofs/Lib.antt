@@ -1,0 +1,13 @@
+pub mod Names
+pub mod Spelling
+pub mod Lines
+pub mod LineEnds
+pub mod Reading
+pub mod Turned
+pub mod Replacing
+pub mod Results
+pub mod InFull
+pub mod Plays
+pub mod Replies
+pub mod Exactly
+pub mod Answers

@@ -1,0 +1,9 @@
+pub mod Name
+pub mod Piece
+pub mod Parse
+pub mod Line
+pub mod Book
+pub mod InFull
+pub mod Play
+pub mod Playing
+pub mod PlaysAs
