@@ -1,0 +1,5 @@
+pub mod Naming
+pub mod Scanning
+pub mod Using
+pub mod Judging
+pub mod Faults

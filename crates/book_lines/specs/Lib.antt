@@ -1,0 +1,4 @@
+pub mod Scan
+pub mod Uses
+pub mod Fault
+pub mod Number
