@@ -1,0 +1,3 @@
+pub mod Holding
+pub mod Spelling
+pub mod Spelled
