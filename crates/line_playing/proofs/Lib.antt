@@ -1,0 +1,2 @@
+pub mod Shelves
+pub mod Lining
