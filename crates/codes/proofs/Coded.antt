@@ -10,6 +10,7 @@ use Rattle.verdicts.specs.Comparing as comparing
 use Rattle.joining.specs.Joining as joining
 use Rattle.rows.specs.Ringing as ringing
 use Rattle.entries.specs.Entering as entering
+use Rattle.books.specs.Playing as playing
 use Rattle.codes.specs.Encoding.{
   stepNumber,
   finishNumber,
@@ -17,6 +18,7 @@ use Rattle.codes.specs.Encoding.{
   joinNumber,
   rowsNumber,
   enterNumber,
+  bookNumber,
   codedStep,
   codedFinish,
   codedCount,
@@ -24,6 +26,7 @@ use Rattle.codes.specs.Encoding.{
   codedJoin,
   codedRows,
   codedEnter,
+  codedBook,
 }
 
 pub coded-step :
@@ -61,3 +64,8 @@ pub coded-enter :
     {n : ℕ} {reply : Reply entering.Entered} {store : List ℕ} {end : entering.After} →
     n ≡ enterNumber reply → entering.After.after reply store ≡ end → (n, store) ≡ codedEnter end
 coded-enter {n} {reply} {store} number ended = ap (λ (m : ℕ). (m, store)) number ∙ ap codedEnter ended
+
+pub coded-book :
+    {n : ℕ} {reply : Reply playing.Played} {area work store : List ℕ} {end : playing.After} →
+    n ≡ bookNumber reply → playing.After.after reply area work store ≡ end → (n, area, work, store) ≡ codedBook end
+coded-book {n} {reply} {area} {work} {store} number ended = ap (λ (m : ℕ). (m, area, work, store)) number ∙ ap codedBook ended

@@ -11,6 +11,7 @@ use Rattle.stepping.specs.Stepping as stepping
 use Rattle.finishing.specs.Finishing as finishing
 use Rattle.verdicts.specs.Comparing as comparing
 use Rattle.rows.specs.Ringing as ringing
+use Rattle.books.specs.Playing as playing
 use Rattle.codes.specs.Encoding.{Parts, placeLimit, sizeLimit, encode, outcomeCode, compareParts, matchParts}
 use Rattle.codes.specs.Decoding.{
   codePart,
@@ -24,6 +25,7 @@ use Rattle.codes.specs.Decoding.{
   ranIn,
   comparedIn,
   rungIn,
+  playedIn,
   matchIn,
 }
 
@@ -140,6 +142,14 @@ pub entered-decoded :
     (number : ℕ) → number < 16777216 → decoded valuePart (encode (Parts.narrow 150 number 0)) ≡ Reply.answered number
 unfolding decoded
 entered-decoded number few = let (c, v, s) = narrow-parts 150 number 0 (omega arith) few (omega arith) in rw (c, v)
+
+pub played-decoded :
+    (line size : ℕ) → line < 16777216 → size < 4294967296 → (o : Outcome) →
+    decoded playedIn (encode (Parts.narrow (outcomeCode o) line size)) ≡ Reply.answered (playing.Played.played o line size)
+unfolding decoded outcomeIn
+played-decoded line size few fits Outcome.finished = let (c, v, s) = narrow-parts 110 line size (omega arith) few fits in rw (c, v, s)
+played-decoded line size few fits Outcome.spent = let (c, v, s) = narrow-parts 111 line size (omega arith) few fits in rw (c, v, s)
+played-decoded line size few fits Outcome.no-room = let (c, v, s) = narrow-parts 112 line size (omega arith) few fits in rw (c, v, s)
 
 pub accepted-decoded : (lines : ℕ) → lines < 16777216 → decoded valuePart (encode (Parts.narrow 120 lines 0)) ≡ Reply.answered lines
 unfolding decoded

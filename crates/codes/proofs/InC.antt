@@ -43,6 +43,10 @@ use Rattle.entries.specs.Entering as entering
 use Rattle.entries.proofs.Numbers.{numbered-most, catalogue-fits}
 use Rattle.entries.proofs.Exactly.{entering-refuses}
 use Rattle.entries.proofs.Calls.{answered-numbered}
+use Rattle.books.specs.Book.{lineLimit}
+use Rattle.books.specs.Playing as playing
+use Rattle.books.proofs.Exactly.{playing-refuses}
+use Rattle.books.proofs.Answers.{call-answers}
 use Rattle.derivation_files.specs.Checking.{checkingOf}
 use Rattle.derivation_files.proofs.Listed.{checking-refused}
 use Rattle.derivation_files.proofs.Files.{accepted-exactly}
@@ -58,6 +62,7 @@ use Rattle.codes.specs.Encoding.{
   joinNumber,
   rowsNumber,
   enterNumber,
+  bookNumber,
   checkNumber,
   matchNumber,
   codedStep,
@@ -67,6 +72,7 @@ use Rattle.codes.specs.Encoding.{
   codedJoin,
   codedRows,
   codedEnter,
+  codedBook,
 }
 use Rattle.codes.specs.Decoding.{
   placePart,
@@ -76,6 +82,7 @@ use Rattle.codes.specs.Decoding.{
   admittedIn,
   comparedIn,
   rungIn,
+  playedIn,
   matchIn,
   decodedRead,
   decodedStep,
@@ -89,6 +96,7 @@ use Rattle.codes.specs.Decoding.{
   decodedRows,
   decodedEnter,
   numberSeen,
+  decodedBook,
   decodedCheck,
   decodedMatch,
   InC,
@@ -108,6 +116,7 @@ use Rattle.codes.proofs.Decoding.{
   joined-decoded,
   rung-decoded,
   entered-decoded,
+  played-decoded,
   accepted-decoded,
   matched-decoded,
 }
@@ -230,6 +239,18 @@ module _ (bytes store : List ℕ) (short : length bytes < placeLimit) where
       let (few, fit) = catalogue-fits (kept .catalogue) in
       cc (entered-decoded (entering.enteredNumber x) (omega (arith, numbered-most numbered, few)))
 
+module _ (book area work store : List ℕ) (fuel : ℕ) where
+  book-decoded :
+      (after : playing.After) → playing.playingOf book area work store fuel ≡ after → decodedBook (codedBook after) ≡ after
+  unfolding bookNumber
+  book-decoded (playing.After.after (Reply.refused n p) area′ work′ store′) e =
+      let listed = playing-refuses book area work store area′ work′ store′ fuel n p e .0 in
+      cc (refused-decoded playedIn (omega arith) (omega arith) (omega arith) listed)
+  book-decoded (playing.After.after (Reply.answered (playing.Played.played o line n)) area′ work′ store′) e =
+      let found = call-answers book area work store area′ work′ store′ fuel line n o e in
+      let few : line ≤ lineLimit = omega (arith, found .most, found .few) in
+      cc (played-decoded line n (omega (arith, few)) (omega (arith, found .small)) o)
+
 check-decoded : (file : List ℕ) (r : Reply ℕ) → checkingOf file ≡ r → decodedCheck (checkNumber r) ≡ r
 unfolding checkNumber
 check-decoded file (Reply.refused n p) e =
@@ -260,6 +281,7 @@ in-c =
           ∙ size-whole f g area (joining.joiningOf f g area) (joins-to f g area) small;
       rows = λ bytes n table short. rows-decoded bytes n table short (ringing.ringingOf bytes n table) (rings-to bytes n table);
       enter = λ bytes store short. enter-decoded bytes store short (entering.enteringOf bytes store) refl;
+      book = λ book area work store fuel. book-decoded book area work store fuel (playing.playingOf book area work store fuel) refl;
       check = λ file. check-decoded file (checkingOf file) refl;
       match-claims = λ first second. match-decoded first second (matchingOf first second) refl;
     }

@@ -19,6 +19,7 @@ use Rattle.joining.specs.Join.{joinSize}
 use Rattle.joining.specs.Joining as joining
 use Rattle.rows.specs.Ringing as ringing
 use Rattle.entries.specs.Entering as entering
+use Rattle.books.specs.Playing as playing
 use Rattle.derivation_files.specs.Checking.{checkingOf}
 use Rattle.matching.specs.Matching.{matchingOf}
 use Rattle.codes.specs.Encoding.{
@@ -34,6 +35,7 @@ use Rattle.codes.specs.Encoding.{
   codedJoin,
   codedRows,
   codedEnter,
+  codedBook,
 }
 
 -- ---- the macros of include/controller.h
@@ -98,6 +100,10 @@ comparedIn reply =
 abbrev pub rungIn : ℕ → ringing.Rung
 rungIn reply = ringing.Rung.rung (valuePart reply) (sizePart reply)
 
+-- what became of a book
+abbrev pub playedIn : ℕ → playing.Played
+playedIn reply = playing.Played.played (outcomeIn reply) (valuePart reply) (sizePart reply)
+
 -- whether the claims match
 unfoldable pub matchIn : ℕ → Bool
 matchIn reply = eqb (codePart reply) 180
@@ -145,13 +151,16 @@ abbrev pub numberSeen : entering.After → Reply ℕ × List ℕ
 numberSeen (entering.After.after (Reply.refused number place) store) = (Reply.refused number place, store)
 numberSeen (entering.After.after (Reply.answered e) store) = (Reply.answered (entering.enteredNumber e), store)
 
+abbrev pub decodedBook : ℕ × List ℕ × List ℕ × List ℕ → playing.After
+decodedBook left = playing.After.after (decoded playedIn (left .0)) (left .1) (left .2) (left .3)
+
 abbrev pub decodedCheck : ℕ → Reply ℕ
 decodedCheck reply = decoded valuePart reply
 
 abbrev pub decodedMatch : ℕ → Reply Bool
 decodedMatch reply = decoded matchIn reply
 
--- What the caller sees is what the operation answers and leaves, for every call of the ten functions; `controller_finish` shows all but
+-- What the caller sees is what the operation answers and leaves, for every call of the eleven functions; `controller_finish` shows all but
 -- the counts by rule, `controller_join` all of a size that 32 bits hold, `controller_enter` all but whether the result is new. (What stands
 -- in the brackets is what the function leaves, by its contract.) Only the four that take terms of any length have a condition: no term has
 -- 2 to the 56 bytes or more.
@@ -182,5 +191,8 @@ pub record InC : Type 0 where
   pub enter :
       (bytes store : List ℕ) → length bytes < placeLimit →
       decodedEnter (codedEnter (entering.enteringOf bytes store)) ≡ numberSeen (entering.enteringOf bytes store)
+  pub book :
+      (book area work store : List ℕ) (fuel : ℕ) →
+      decodedBook (codedBook (playing.playingOf book area work store fuel)) ≡ playing.playingOf book area work store fuel
   pub check : (file : List ℕ) → decodedCheck (checkNumber (checkingOf file)) ≡ checkingOf file
   pub match-claims : (first second : List ℕ) → decodedMatch (matchNumber (matchingOf first second)) ≡ matchingOf first second

@@ -11,6 +11,7 @@ use Rattle.verdicts.specs.Comparing as comparing
 use Rattle.joining.specs.Joining as joining
 use Rattle.rows.specs.Ringing as ringing
 use Rattle.entries.specs.Entering as entering
+use Rattle.books.specs.Playing as playing
 
 -- ---- a code and what stands behind it
 
@@ -77,6 +78,10 @@ rowsParts (ringing.Rung.rung rows different) = Parts.narrow 130 rows different
 abbrev pub enterParts : entering.Entered → Parts
 enterParts e = Parts.narrow 150 (entering.enteredNumber e) 0
 
+-- books: the code of the outcome, with the line and the size of the result
+abbrev pub bookParts : playing.Played → Parts
+bookParts (playing.Played.played o line size) = Parts.narrow (outcomeCode o) line size
+
 -- checking: 120 accepted, with the number of lines
 abbrev pub checkParts : ℕ → Parts
 checkParts lines = Parts.narrow 120 lines 0
@@ -109,6 +114,9 @@ rowsNumber reply = encode (parts rowsParts reply)
 unfoldable pub enterNumber : Reply entering.Entered → ℕ
 enterNumber reply = encode (parts enterParts reply)
 
+unfoldable pub bookNumber : Reply playing.Played → ℕ
+bookNumber reply = encode (parts bookParts reply)
+
 unfoldable pub checkNumber : Reply ℕ → ℕ
 checkNumber reply = encode (parts checkParts reply)
 
@@ -137,3 +145,6 @@ codedRows (ringing.After.after reply table) = (rowsNumber reply, table)
 
 abbrev pub codedEnter : entering.After → ℕ × List ℕ
 codedEnter (entering.After.after reply store) = (enterNumber reply, store)
+
+abbrev pub codedBook : playing.After → ℕ × List ℕ × List ℕ × List ℕ
+codedBook (playing.After.after reply area work store) = (bookNumber reply, area, work, store)

@@ -8,9 +8,10 @@ ghost use Rattle.verdicts.specs.Comparing.{comparingOf};
 ghost use Rattle.joining.specs.Joining.{joiningOf};
 ghost use Rattle.rows.specs.Ringing.{ringingOf};
 ghost use Rattle.entries.specs.Entering.{enteringOf};
+ghost use Rattle.books.specs.Playing.{playingOf};
 ghost use Rattle.derivation_files.specs.Checking.{checkingOf};
 ghost use Rattle.matching.specs.Matching.{matchingOf};
-ghost use Rattle.codes.specs.Encoding.{readNumber, checkNumber, matchNumber, codedStep, codedFinish, codedCount, codedCompare, codedJoin, codedRows, codedEnter};
+ghost use Rattle.codes.specs.Encoding.{readNumber, checkNumber, matchNumber, codedStep, codedFinish, codedCount, codedCompare, codedJoin, codedRows, codedEnter, codedBook};
 
 // Whether bytes, any number of them, are the text of one term.
 #[no_mangle]
@@ -109,6 +110,21 @@ pub extern "C" fn controller_enter(term: &[u8], store: &mut [u8]) -> u64
     ensures { λ r. ⌜ (r, now (store .exit)) ≡ codedEnter (enteringOf (now (term .entry)) (now (store .entry))) ⌝ }
 {
     term_numbers::enter_number(catalogue::enter(term, store))
+}
+
+// Plays a book with the area, the work area and the store.
+#[no_mangle]
+pub extern "C" fn controller_book(
+    book: &[u8],
+    area: &mut [u8],
+    work: &mut [u8],
+    store: &mut [u8],
+    fuel: u64,
+) -> u64
+    ensures { λ r. ⌜ (r, now (area .exit), now (work .exit), now (store .exit))
+        ≡ codedBook (playingOf (now (book .entry)) (now (area .entry)) (now (work .entry)) (now (store .entry)) fuel) ⌝ }
+{
+    term_numbers::book_number(book::play(book, area, work, store, fuel))
 }
 
 // Whether each line of a derivation file follows.

@@ -36,6 +36,7 @@ use Rattle.rows.specs.RingsAs.{RingsAs}
 use Rattle.rows.proofs.Exactly.{rings-exactly}
 use Rattle.entries.proofs.Exactly.{entering-refuses, enters-exactly}
 use Rattle.entries.proofs.Calls.{number-bytes}
+use Rattle.books.proofs.Exactly.{playing-refuses, plays-exactly}
 use Rattle.small_admission.specs.Admission.{Refused}
 use Rattle.small_terms.specs.Sweep.{SweepsAs}
 use Rattle.small_terms.specs.Dearest.{FindsAs}
@@ -244,6 +245,7 @@ demands =
       joining-refuses = λ f g area area′ number place e. join-refused (joins-exactly f g area area′ (Reply.refused number place) .0 e);
       rows-refuse = λ bytes n table table′ number place e. rows-refused (rings-exactly bytes n table table′ (Reply.refused number place) .0 e);
       entering-refuses = entering-refuses;
+      playing-refuses = playing-refuses;
       sweep-refuses = λ n fuel area number place e. sweep-refused (sweeps-exactly n fuel area (Reply.refused number place) .0 e);
       dearest-refuses = λ n fuel area number place e. dearest-refused (finds-exactly n fuel area (Reply.refused number place) .0 e);
       checking-refuses = checking-refused;
@@ -267,6 +269,7 @@ demands =
       joins = joins-exactly;
       rings = rings-exactly;
       enters = enters-exactly;
+      plays = plays-exactly;
       sweeps = sweeps-exactly;
       finds = finds-exactly;
       checks = λ file reply. (λ e. subst (ChecksAs file) e (checks-as file), λ c. sym (checks-as-only file reply c));

@@ -2,9 +2,9 @@
 -- that those definitions are shown to agree with. `demands` of proofs/Demands.antt is the proof.
 -- That a call ends, does nothing undefined, and that its reply and every lent byte are those of these definitions, for every input, is what the
 -- contract of each operation says; none has a `requires`. That no result is overlooked stands beside them, in specs/Results.antt, what joins
--- do in specs/Joined.antt, what rows say in specs/RowsSay.antt, what the catalogue says in specs/CatalogueSays.antt, and what a sweep says
--- of small terms in specs/SmallTerms.antt.
-use Prim.Native.Nat.{ℕ, _≤_, _<_, min}
+-- do in specs/Joined.antt, what rows say in specs/RowsSay.antt, what the catalogue says in specs/CatalogueSays.antt, what books say in
+-- specs/BookSays.antt, and what a sweep says of small terms in specs/SmallTerms.antt.
+use Prim.Native.Nat.{ℕ, suc, _≤_, _<_, min}
 use mathlib.Core.Path.{_≡_}
 use mathlib.Core.Bool.{true}
 use mathlib.Core.Logic.{_↔_, _⊎_}
@@ -37,6 +37,9 @@ use Rattle.rows.specs.RingsAs.{RingsAs}
 use Rattle.entries.specs.Entering as entering
 use Rattle.entries.specs.EntersAs.{EntersAs}
 use Rattle.entries.specs.Calls.{Call, Calls}
+use Rattle.books.specs.Book.{lineLimit as bookLines}
+use Rattle.books.specs.Playing as playing
+use Rattle.books.specs.PlaysAs.{PlaysAs}
 use Rattle.small_terms.specs.Sweep.{Swept, sweepOf, SweepsAs}
 use Rattle.small_terms.specs.Dearest.{Dear, dearestOf, FindsAs}
 use Rattle.derivation_files.specs.Checking.{checkingOf}
@@ -66,6 +69,10 @@ RowsRefuse bytes number place =
 -- those of the catalogue: 2 and 28 to 30 at place 0, and reading's own
 abbrev pub EnterRefuses : (bytes : List ℕ) (number place : ℕ) → Type 0
 EnterRefuses bytes number place = Refuses (2 ∷ 28 ∷ 29 ∷ 30 ∷ []) (5 ∷ 6 ∷ 7 ∷ []) 0 (length bytes) number place
+
+-- those of a book: 1, 2, 4 and 10 to 12 at line 0, and 25 to 27 at a line; the line behind the last that a book may have is one of them
+abbrev pub BookRefuses : (number line : ℕ) → Type 0
+BookRefuses number line = Refuses (1 ∷ 2 ∷ 4 ∷ 10 ∷ 11 ∷ 12 ∷ []) (25 ∷ 26 ∷ 27 ∷ []) 1 (suc bookLines) number line
 
 -- those of a call for small terms, at place 0
 abbrev pub SmallTermsRefuse : (number place : ℕ) → Type 0
@@ -152,6 +159,10 @@ pub record Demands : Type 0 where
       (bytes store store′ : List ℕ) (number place : ℕ) →
       entering.enteringOf bytes store ≡ entering.After.after (Reply.refused number place) store′ →
       EnterRefuses bytes number place × (store′ ≡ store)
+  pub playing-refuses :
+      (book area work store area′ work′ store′ : List ℕ) (fuel number line : ℕ) →
+      playing.playingOf book area work store fuel ≡ playing.After.after (Reply.refused number line) area′ work′ store′ →
+      BookRefuses number line × (area′ ≡ area) × (work′ ≡ work) × (store′ ≡ store)
   pub sweep-refuses : (n fuel area number place : ℕ) → sweepOf n fuel area ≡ Reply.refused number place → SmallTermsRefuse number place
   pub dearest-refuses : (n fuel area number place : ℕ) → dearestOf n fuel area ≡ Reply.refused number place → SmallTermsRefuse number place
   pub checking-refuses : (file : List ℕ) (number line : ℕ) → checkingOf file ≡ Reply.refused number line → CheckRefuses file number line
@@ -204,6 +215,11 @@ pub record Demands : Type 0 where
   pub enters :
       (bytes store store′ : List ℕ) (reply : Reply entering.Entered) →
       (entering.enteringOf bytes store ≡ entering.After.after reply store′) ↔ EntersAs bytes store reply store′
+  -- and with books: each refusal on its condition, the first line that does not finish, or the result of the last
+  pub plays :
+      (book area work store area′ work′ store′ : List ℕ) (fuel : ℕ) (reply : Reply playing.Played) →
+      (playing.playingOf book area work store fuel ≡ playing.After.after reply area′ work′ store′)
+      ↔ PlaysAs book area work store fuel reply area′ work′ store′
   -- and with sweeps: the run of every small term, and what the runs come to
   pub sweeps : (n fuel area : ℕ) (reply : Reply Swept) → (sweepOf n fuel area ≡ reply) ↔ SweepsAs n fuel area reply
   -- and with the dearest small term: its run finishes, none makes more steps, and no earlier one as many

@@ -1,7 +1,7 @@
 -- The proved examples (REQUIREMENTS, Examples), twelve of the base, nine with bells, seven with counts, four on results, ten on joins and
--- fifteen on rows, as rows of one table over the operations' definitions; those of the catalogue stand in specs/CatalogueExamples.antt.
--- proofs/Examples.antt has the proof that covers it. Every expected reply was written by hand from the paper; the rules of examples 1 and 3 to 8, which it does not give, were
--- worked out by hand from figure 1.
+-- fifteen on rows, as rows of one table over the operations' definitions; those of the catalogue stand in specs/CatalogueExamples.antt,
+-- those of books in specs/BookExamples.antt. proofs/Examples.antt has the proof that covers it. Every expected reply was written by hand
+-- from the paper; the rules of examples 1 and 3 to 8, which it does not give, were worked out by hand from figure 1.
 use Prim.Native.Nat.{ℕ, _-_}
 use Prim.Native.String.{String}
 use mathlib.Core.List.{List, [], _∷_, _++_}

@@ -34,6 +34,10 @@ use Rattle.catalogue.specs.Answer as entering
 use Rattle.catalogue.specs.declared.Entering.{Entering}
 use Rattle.catalogue.specs.declared.Entering.the-variants as enter
 use Rattle.catalogue.proofs.Entering.{the-type as Entering-type}
+use Rattle.book.specs.Answer as playing
+use Rattle.book.specs.declared.Playing.{Playing}
+use Rattle.book.specs.declared.Playing.the-variants as play
+use Rattle.book.proofs.Playing.{the-type as Playing-type}
 
 pub reading-refusal : (a : Reading) → OneOf (1 ∷ 2 ∷ 3 ∷ []) (tagOf Reading-type a) → Refusal (reading.answerOf a)
 reading-refusal (Whole size) k = absurd (miss (1 ∷ 2 ∷ 3 ∷ []) 0 tt k)
@@ -79,3 +83,11 @@ entering-refusal enter.NotNormal k = refl
 entering-refusal enter.Full k = refl
 entering-refusal (enter.Known number) k = absurd (miss (0 ∷ 1 ∷ 2 ∷ 3 ∷ 4 ∷ []) 5 tt k)
 entering-refusal (enter.New number) k = absurd (miss (0 ∷ 1 ∷ 2 ∷ 3 ∷ 4 ∷ []) 6 tt k)
+
+pub playing-refusal : (a : Playing) → OneOf (0 ∷ 1 ∷ 2 ∷ 3 ∷ 4 ∷ []) (tagOf Playing-type a) → Refusal (playing.answerOf a)
+playing-refusal play.AreaTooLong k = refl
+playing-refusal play.WorkTooShort k = refl
+playing-refusal play.StoreTooShort k = refl
+playing-refusal play.FuelTooHigh k = refl
+playing-refusal (play.Unread reading) k = refl
+playing-refusal (play.Played outcome line size) k = absurd (miss (0 ∷ 1 ∷ 2 ∷ 3 ∷ 4 ∷ []) 5 tt k)

@@ -1,5 +1,6 @@
 // The answers of the operations on terms, each as one number for callers in C.
 use admission::Admission;
+use book::Playing;
 use catalogue::Entering;
 use counting::Counted;
 use finishing::Outcome;
@@ -19,7 +20,8 @@ ghost use Rattle.verdicts.specs.Answer.{answerOf as comparingAnswer};
 ghost use Rattle.joining.specs.Answer.{answerOf as joiningAnswer};
 ghost use Rattle.rows.specs.Answer.{answerOf as ringingAnswer};
 ghost use Rattle.catalogue.specs.Answer.{answerOf as catalogueAnswer};
-ghost use Rattle.codes.specs.Encoding.{outcomeCode, readNumber, stepNumber, finishNumber, compareNumber, joinNumber, rowsNumber, enterNumber};
+ghost use Rattle.book.specs.Answer.{answerOf as bookAnswer};
+ghost use Rattle.codes.specs.Encoding.{outcomeCode, readNumber, stepNumber, finishNumber, compareNumber, joinNumber, rowsNumber, enterNumber, bookNumber};
 
 // The number of reading's answer.
 pub fn read_number(answer: Reading) -> u64
@@ -115,5 +117,15 @@ pub fn enter_number(answer: Entering) -> u64
         Entering::Known(number) => codes::narrow(150, number, 0),
         Entering::New(number) => codes::narrow(150, number, 0),
         _ => codes::wide(catalogue::number(answer), catalogue::place(answer)),
+    }
+}
+
+// The number of the answer that a book gets.
+pub fn book_number(answer: Playing) -> u64
+    ensures { λ r. ⌜ r ≡ bookNumber (bookAnswer answer) ⌝ }
+{
+    match answer {
+        Playing::Played(outcome, line, size) => codes::narrow(outcome_code(outcome), line, size),
+        _ => codes::wide(book::number(answer), book::place(answer)),
     }
 }
