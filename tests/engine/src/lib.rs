@@ -1,4 +1,4 @@
-//! The engine's ten functions as `include/controller.h` declares them, on slices.
+//! The engine's eleven functions as `include/controller.h` declares them, on slices.
 
 use harness::subject::Controller;
 use second::comparing::Lent;
@@ -45,6 +45,17 @@ extern "C" {
     ) -> u64;
     fn controller_rows(term: *const u8, term_size: usize, bells: usize, table: *mut u8, table_size: usize) -> u64;
     fn controller_enter(term: *const u8, term_size: usize, store: *mut u8, store_size: usize) -> u64;
+    fn controller_book(
+        book: *const u8,
+        book_size: usize,
+        area: *mut u8,
+        area_size: usize,
+        work: *mut u8,
+        work_size: usize,
+        store: *mut u8,
+        store_size: usize,
+        fuel: u64,
+    ) -> u64;
     fn controller_check(file: *const u8, file_size: usize) -> u64;
     fn controller_match(first: *const u8, first_size: usize, second: *const u8, second_size: usize) -> u64;
 }
@@ -107,6 +118,22 @@ impl Controller for Linked {
 
     fn enter(&self, term: &[u8], store: &mut [u8]) -> u64 {
         unsafe { controller_enter(term.as_ptr(), term.len(), store.as_mut_ptr(), store.len()) }
+    }
+
+    fn book(&self, book: &[u8], area: &mut [u8], work: &mut [u8], store: &mut [u8], fuel: u64) -> u64 {
+        unsafe {
+            controller_book(
+                book.as_ptr(),
+                book.len(),
+                area.as_mut_ptr(),
+                area.len(),
+                work.as_mut_ptr(),
+                work.len(),
+                store.as_mut_ptr(),
+                store.len(),
+                fuel,
+            )
+        }
     }
 
     fn check(&self, file: &[u8]) -> u64 {

@@ -337,6 +337,53 @@ pub fn agree_entry(subject: &dyn Controller, entry: &Entry) -> Result<Vec<u8>, S
     Ok(expected.1)
 }
 
+/// A book, what is lent for it, and a fuel.
+#[derive(Clone)]
+pub struct Play {
+    pub book: Vec<u8>,
+    pub area: Vec<u8>,
+    pub work: Vec<u8>,
+    pub store: Vec<u8>,
+    pub fuel: u64,
+}
+
+/// What playing replies, and the bytes of the area, the work area and the store afterwards; the book stays as it is.
+pub type AfterPlay = (u64, [Vec<u8>; 3]);
+
+/// What the second implementation replies to a book, with its plain reducer.
+pub fn predict_play(play: &Play) -> AfterPlay {
+    predict_play_by::<Plain>(play)
+}
+
+/// What it replies with one of its reducers.
+pub fn predict_play_by<R: Reducer>(play: &Play) -> AfterPlay {
+    let Play { book, mut area, mut work, mut store, fuel } = play.clone();
+    let reply = Second::<R>::new().book(&book, &mut area, &mut work, &mut store, fuel);
+    (reply, [area, work, store])
+}
+
+/// Plays, and demands the reply and every lent byte.
+pub fn demand_play(subject: &dyn Controller, play: &Play, expected: &AfterPlay) -> Outcome {
+    let mut lent = [&play.area, &play.work, &play.store].map(|bytes| Guarded::new(bytes));
+    let mut book = Guarded::new(&play.book);
+    let [area, work, store] = &mut lent;
+    let reply = subject.book(book.area(), area.area(), work.area(), store.area(), play.fuel);
+    let mut found = equal("reply", in_words(reply), in_words(expected.0));
+    for (place, what) in ["term area", "work area", "store"].into_iter().enumerate() {
+        found = found.and_then(|()| lent[place].expect(what, &expected.1[place]));
+    }
+    let found = found.and_then(|()| book.expect("book", &play.book));
+    let (area, work, store) = (play.area.len(), play.work.len(), play.store.len());
+    found.map_err(|what| {
+        format!("{what}; on {} area {area} work {work} store {store} fuel {}", shown(&play.book), play.fuel)
+    })
+}
+
+/// Demands that a book is played as the second implementation plays it.
+pub fn agree_play(subject: &dyn Controller, play: &Play) -> Outcome {
+    demand_play(subject, play, &predict_play(play))
+}
+
 /// Calls checking on guarded bytes, and demands the reply and that no byte was changed.
 pub fn demand_check(subject: &dyn Controller, file: &[u8], reply: u64) -> Outcome {
     let mut lent = Guarded::new(file);

@@ -1,5 +1,6 @@
 //! The one number in which a function of the engine replies.
 
+use second::book::Played;
 use second::comparing::Verdict;
 use second::finishing::{Outcome, Run};
 use second::refusal::Refusal;
@@ -89,12 +90,15 @@ pub fn of_run(reply: Result<Run, Refusal>) -> u64 {
         Ok(run) => run,
         Err(refusal) => return of_refusal(refusal),
     };
-    let code = match run.outcome {
+    pack(of_outcome(run.outcome), run.count, run.length)
+}
+
+fn of_outcome(outcome: Outcome) -> u64 {
+    match outcome {
         Outcome::Finished => FINISHED,
         Outcome::Spent => SPENT,
         Outcome::NoRoom => NO_ROOM,
-    };
-    pack(code, run.count, run.length)
+    }
 }
 
 pub fn of_verdict(reply: Result<Verdict, Refusal>) -> u64 {
@@ -117,6 +121,10 @@ pub fn of_rows(reply: Result<Rung, Refusal>) -> u64 {
 
 pub fn of_enter(reply: Result<usize, Refusal>) -> u64 {
     reply.map_or_else(of_refusal, |number| pack(ENTERED, number as u64, 0))
+}
+
+pub fn of_book(reply: Result<Played, Refusal>) -> u64 {
+    reply.map_or_else(of_refusal, |played| pack(of_outcome(played.outcome), played.line as u64, played.length))
 }
 
 pub fn of_match(reply: Result<bool, Refusal>) -> u64 {

@@ -1,6 +1,7 @@
 //! What is under test: the engine's functions and programs, or the second implementation in their place.
 
 use crate::reply::*;
+use second::book;
 use second::catalogue;
 use second::checking;
 use second::comparing::{self, Lent};
@@ -14,7 +15,7 @@ use second::stepping::{self, Reducer};
 use second::sweeping;
 use std::marker::PhantomData;
 
-/// The ten functions of `include/controller.h`.
+/// The eleven functions of `include/controller.h`.
 pub trait Controller {
     fn read(&self, slice: &[u8]) -> u64;
     fn step(&self, area: &mut [u8], term: usize, work: &mut [u8]) -> u64;
@@ -24,6 +25,7 @@ pub trait Controller {
     fn join(&self, f: &[u8], g: &[u8], area: &mut [u8]) -> u64;
     fn rows(&self, term: &[u8], bells: usize, table: &mut [u8]) -> u64;
     fn enter(&self, term: &[u8], store: &mut [u8]) -> u64;
+    fn book(&self, book: &[u8], area: &mut [u8], work: &mut [u8], store: &mut [u8], fuel: u64) -> u64;
     fn check(&self, file: &[u8]) -> u64;
     fn match_claims(&self, first: &[u8], second: &[u8]) -> u64;
 }
@@ -91,6 +93,10 @@ impl<R: Reducer> Controller for Second<R> {
 
     fn enter(&self, term: &[u8], store: &mut [u8]) -> u64 {
         of_enter(catalogue::enter(term, store))
+    }
+
+    fn book(&self, book: &[u8], area: &mut [u8], work: &mut [u8], store: &mut [u8], fuel: u64) -> u64 {
+        of_book(book::play::<R>(book, area, work, store, fuel))
     }
 
     fn check(&self, file: &[u8]) -> u64 {

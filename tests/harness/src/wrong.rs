@@ -540,6 +540,10 @@ impl<C: Controller> Controller for Wrong<C> {
         (self.bug.reply)(self.subject.enter(term, store))
     }
 
+    fn book(&self, book: &[u8], area: &mut [u8], work: &mut [u8], store: &mut [u8], fuel: u64) -> u64 {
+        (self.bug.reply)(self.subject.book(book, area, work, store, fuel))
+    }
+
     fn check(&self, file: &[u8]) -> u64 {
         (self.bug.reply)((self.bug.read)(file, self.subject.check(file)))
     }

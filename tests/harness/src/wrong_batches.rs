@@ -180,6 +180,10 @@ impl Controller for Batches {
         Second::<Machine>::new().enter(term, store)
     }
 
+    fn book(&self, book: &[u8], area: &mut [u8], work: &mut [u8], store: &mut [u8], fuel: u64) -> u64 {
+        Second::<Machine>::new().book(book, area, work, store, fuel)
+    }
+
     fn check(&self, file: &[u8]) -> u64 {
         Second::<Machine>::new().check(file)
     }

@@ -50,6 +50,10 @@ impl<C: Controller> Controller for Wrong<C> {
         (self.slip.enter)(&self.subject, Entering { term, store })
     }
 
+    fn book(&self, book: &[u8], area: &mut [u8], work: &mut [u8], store: &mut [u8], fuel: u64) -> u64 {
+        self.subject.book(book, area, work, store, fuel)
+    }
+
     fn check(&self, file: &[u8]) -> u64 {
         self.subject.check(file)
     }

@@ -1,4 +1,4 @@
-//! Three of the five programs: what each prints for its input; what sweep and dearest print has a file each.
+//! Three of the six programs: what each prints for its input; what sweep, dearest and play_book print has a file each.
 
 use crate::checking;
 use crate::counting::{finish_by_rule, Counts};

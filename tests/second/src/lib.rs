@@ -6,6 +6,7 @@
 
 pub mod anywhere;
 pub mod bell;
+pub mod book;
 pub mod catalogue;
 pub mod checking;
 pub mod comparing;

@@ -7,7 +7,7 @@ pub struct Refusal {
 }
 
 pub const AREA_TOO_LARGE: u8 = 1;
-/// The work area, the buffer for the counts, or the store of a catalogue.
+/// The work area, the buffer for the counts, or the store of a catalogue or a book.
 pub const LENT_TOO_SHORT: u8 = 2;
 pub const LENGTH_TOO_LARGE: u8 = 3;
 pub const FUEL_TOO_LARGE: u8 = 4;
@@ -29,6 +29,10 @@ pub const NO_CHAIN: u8 = 20;
 /// The bells are no whole number of rows, or the rows are too many.
 pub const NO_TABLE: u8 = 21;
 pub const BAD_ROW: u8 = 22;
+/// A line of a book is no name, tab and term with uses, or is one too many.
+pub const BAD_BOOK_LINE: u8 = 25;
+pub const NAME_TAKEN: u8 = 26;
+pub const NAME_UNKNOWN: u8 = 27;
 pub const NO_CATALOGUE: u8 = 28;
 /// A full stop stands in a term that is to be entered.
 pub const NOT_NORMAL: u8 = 29;

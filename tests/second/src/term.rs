@@ -121,7 +121,7 @@ pub fn parse(text: &[u8]) -> Result<Term, Refusal> {
 }
 
 /// The term with this first letter whose parts stand last in `terms`, the first part on top.
-fn node(letter: u8, terms: &mut Vec<Term>) -> Term {
+pub fn node(letter: u8, terms: &mut Vec<Term>) -> Term {
     let mut part = || terms.pop().expect("a text that was read holds each letter's parts");
     match letter {
         b'J' => J,
