@@ -1,5 +1,8 @@
 //! What a subject, the engine or the second implementation, is asked, and what it must reply.
 
+pub mod book_laws;
+pub mod book_tests;
+pub mod books;
 pub mod catalogue_laws;
 pub mod catalogue_tests;
 pub mod chains;

@@ -12,9 +12,10 @@ use crate::wrong_batch::Slip;
 use crate::wrong_batches::Batches;
 use crate::wrong_entries;
 use crate::{
-    catalogue_laws, catalogue_tests, check_tests, compare_tests, count_tests, dearest_tests, deep, end_tests,
-    finish_tests, huge, join_laws, join_tests, machine_rules, machine_tests, match_tests, program_tests,
-    read_tests, result_tests, row_laws, row_tests, small_tests, step_tests, sweep_tests,
+    book_laws, book_tests, catalogue_laws, catalogue_tests, check_tests, compare_tests, count_tests,
+    dearest_tests, deep, end_tests, finish_tests, huge, join_laws, join_tests, machine_rules, machine_tests,
+    match_tests, program_tests, read_tests, result_tests, row_laws, row_tests, small_tests, step_tests,
+    sweep_tests,
 };
 use second::anywhere::{nearest_normal, successors, Nearest};
 use second::checking::check;
@@ -215,6 +216,7 @@ fn known(suite: &mut Suite) {
     join_tests::known(suite, "plain", plain);
     row_tests::known(suite, "second", plain);
     catalogue_tests::known(suite, "second", plain);
+    book_tests::known(suite, "second", plain);
     check_tests::known(suite, "second", plain);
     match_tests::known(suite, "second", plain);
     program_tests::known_finishing(suite, "second", plain);
@@ -236,6 +238,7 @@ fn made(suite: &mut Suite) {
     row_laws::made(suite, "plain", plain);
     row_laws::made(suite, "fast", fast);
     catalogue_laws::made(suite, "second", fast);
+    book_laws::made(suite, "second", fast);
     finish_tests::made(suite, "plain", plain);
     finish_tests::made(suite, "fast", fast);
     result_tests::made(suite, "plain", plain);

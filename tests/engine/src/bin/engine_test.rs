@@ -16,9 +16,9 @@ use harness::wrong_batches::{Batches, SLIPS};
 use harness::wrong_catalogue::Slip;
 use harness::wrong_entries::{self, slips};
 use harness::{
-    catalogue_laws, catalogue_tests, check_tests, compare_tests, count_tests, deep, end_tests, finish_tests, huge,
-    join_laws, join_tests, machine_tests, match_tests, read_tests, result_tests, row_laws, row_tests, small_tests,
-    step_tests, threads,
+    book_laws, book_tests, catalogue_laws, catalogue_tests, check_tests, compare_tests, count_tests, deep,
+    end_tests, finish_tests, huge, join_laws, join_tests, machine_tests, match_tests, read_tests, result_tests,
+    row_laws, row_tests, small_tests, step_tests, threads,
 };
 
 /// What was written by hand: quick, and enough to see most of the bugs that are planted.
@@ -32,6 +32,7 @@ fn known(suite: &mut Suite, subject: impl Controller + Copy) {
     join_tests::known(suite, "engine", subject);
     row_tests::known(suite, "engine", subject);
     catalogue_tests::known(suite, "engine", subject);
+    book_tests::known(suite, "engine", subject);
     check_tests::known(suite, "engine", subject);
     match_tests::known(suite, "engine", subject);
     read_tests::made(suite, "engine", subject);
@@ -40,6 +41,7 @@ fn known(suite: &mut Suite, subject: impl Controller + Copy) {
     join_laws::made(suite, "engine", subject);
     row_laws::made(suite, "engine", subject);
     catalogue_laws::made(suite, "engine", subject);
+    book_laws::made(suite, "engine", subject);
     count_tests::made(suite, "engine", subject);
     finish_tests::made(suite, "engine", subject);
     result_tests::made(suite, "engine", subject);
@@ -61,6 +63,7 @@ fn predicted(suite: &mut Suite, subject: impl Controller + Copy) {
     join_tests::predicted(suite, "engine", subject);
     row_tests::predicted(suite, "engine", subject);
     catalogue_tests::predicted(suite, "engine", subject);
+    book_tests::predicted(suite, "engine", subject);
     check_tests::predicted(suite, "engine", subject);
     match_tests::predicted(suite, "engine", subject);
 }
