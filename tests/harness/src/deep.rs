@@ -1,5 +1,6 @@
 //! Terms and files nested deep, each call on a thread with the stack that docs/FIRMWARE.md advises.
 
+use crate::books::STORE;
 use crate::chains::{piece, row_at, table_of, Row};
 use crate::lent::*;
 use crate::reply::from_words;
@@ -350,6 +351,80 @@ fn catalogues(suite: &mut Suite, label: &str, subject: impl Controller + Sync + 
     }
 }
 
+/// Terms of 16,383 or 16,384 letters, deep in every way, which are their own results; and the same with `(a)` for each
+/// `J`.
+fn deep_lines() -> Vec<(Named, Vec<u8>)> {
+    let both = |name, text: Vec<u8>| {
+        let uses = text.iter().flat_map(|letter| if *letter == b'J' { b"(a)".to_vec() } else { vec![*letter] });
+        let uses = uses.collect();
+        ((name, text), uses)
+    };
+    vec![
+        both("R^16383 J", index(16_383)),
+        both("H to the left", nested("H", 8_191, "J", 8_192)),
+        both("H to the right", joined(&[&repeated("HJ", 8_191), b"J"])),
+        both("A to the left", nested("A", 8_191, "J", 8_192)),
+        both("A to the right", joined(&[&repeated("AJ", 8_191), b"J"])),
+        both("B to the left, bells", nested("B", 8_191, "1", 8_192)),
+        both("B to the right", joined(&[&repeated("BJ", 8_191), b"J"])),
+    ]
+}
+
+/// Lines of 65,533 letters, and what they come to: no room, or no line.
+fn longest_lines() -> Vec<(Named, &'static str)> {
+    vec![
+        (("R^65532 J", index(65_532)), "no room 1"),
+        (("H to the left", nested("H", 32_766, "J", 32_767)), "no room 1"),
+        (("H to the right", joined(&[&repeated("HJ", 32_766), b"J"])), "no room 1"),
+        ((". to the left", nested(".", 32_766, "I", 32_767)), "no room 1"),
+        (("R^65533", repeated("R", 65_533)), "25@1"),
+        (("H^65533", repeated("H", 65_533)), "25@1"),
+        ((".^65533", repeated(".", 65_533)), "25@1"),
+        (("H to the left, one J too few", nested("H", 32_767, "J", 32_766)), "25@1"),
+        (("H to the left, one J too many", nested("H", 32_765, "J", 32_767)), "25@1"),
+        (("R^65529 and a use", joined(&[&repeated("R", 65_529), b"(bc)"])), "27@1"),
+        (("R^65532 (", joined(&[&repeated("R", 65_532), b"("])), "25@1"),
+        (("(^65533", repeated("(", 65_533)), "25@1"),
+        (("(a^65532", joined(&[b"(", &repeated("a", 65_532)])), "25@1"),
+    ]
+}
+
+/// A book in the largest area with the most fuel, on the advised stack.
+fn played_deep(subject: impl Controller + Sync, book: Vec<u8>, words: &str, result: &[u8]) -> Outcome {
+    let (reply, area) = (from_words(words, result.len()), vec![b'#'; 16_384]);
+    let play = Play { book, work: area.clone(), area, store: vec![b'#'; STORE], fuel: 1_000_000 };
+    let left = match words.contains('@') {
+        true => [play.area.clone(), play.work.clone(), play.store.clone()],
+        false => [padded(result, 16_384), vec![0; 16_384], vec![0; STORE]],
+    };
+    on_advised_stack(|| demand_play(&subject, &play, &(reply, left)))
+}
+
+/// Books of deep lines, of deep lines of uses, and of lines that are as long as a book may be.
+fn books(suite: &mut Suite, label: &str, subject: impl Controller + Sync + Copy) {
+    for ((name, text), uses) in deep_lines() {
+        suite.test(&format!("{label} deep book: {name}, used"), || {
+            played_deep(subject, joined(&[b"a\t", &text, b"\nb\t(a)\n"]), "finished 2", &text)
+        });
+        suite.test(&format!("{label} deep book: {name}, uses in it"), || {
+            played_deep(subject, joined(&[b"a\tJ\nb\t", &uses, b"\n"]), "finished 2", &text)
+        });
+    }
+    suite.test(&format!("{label} deep book: . to the left, uses in it"), || {
+        let book = joined(&[b"a\tI\nb\t", &nested(".", 8_191, "(a)", 8_192), b"\n"]);
+        played_deep(subject, book, "finished 2", b"I")
+    });
+    suite.test(&format!("{label} deep book: . to the right, uses in it"), || {
+        let book = joined(&[b"a\tI\nb\t", &repeated(".(a)", 8_191), b"(a)\n"]);
+        played_deep(subject, book, "finished 2", b"I")
+    });
+    for ((name, text), words) in longest_lines() {
+        suite.test(&format!("{label} deep book: {name}"), || {
+            played_deep(subject, joined(&[b"a\t", &text, b"\n"]), words, b"")
+        });
+    }
+}
+
 /// Matching of a file with deep terms and types with itself.
 fn matches(suite: &mut Suite, label: &str, subject: impl Controller + Sync + Copy) {
     for row in large_files() {
@@ -368,6 +443,7 @@ pub fn all(suite: &mut Suite, label: &str, subject: impl Controller + Sync + Cop
     joins(suite, label, subject);
     rows(suite, label, subject);
     catalogues(suite, label, subject);
+    books(suite, label, subject);
     files(suite, label, subject);
     matches(suite, label, subject);
 }

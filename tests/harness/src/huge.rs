@@ -1,5 +1,6 @@
 //! Lengths over 2^32, on memory of which few pages are really there.
 
+use crate::books;
 use crate::memory::Pages;
 use crate::reply::{from_words, in_words};
 use crate::stores::{empty, store_of, STORE};
@@ -89,6 +90,7 @@ pub fn all(suite: &mut Suite, label: &str, subject: impl Controller) {
         })
     });
     catalogues(suite, label, &subject);
+    books(suite, label, &subject);
     suite.test(&format!("{label} checking: a file of 2^32 and 12 bytes"), || {
         with_huge(OVER + LINE.len(), LINE, |file| replied(subject.check(file), "10@0"))
     });
@@ -107,6 +109,57 @@ pub fn catalogues(suite: &mut Suite, label: &str, subject: &dyn Controller) {
         })
     });
     suite.test(&format!("{label} catalogue: a store of 2^32 and 5 bytes"), || entered_far(subject));
+}
+
+/// Books with something that is lent of over 2^32 bytes.
+pub fn books(suite: &mut Suite, label: &str, subject: &dyn Controller) {
+    let (line, small) = (b"a\t.II\n", || (vec![7; 5], vec![7; 5], vec![7; books::STORE]));
+    suite.test(&format!("{label} book: a book of 2^32 and 6 bytes"), || {
+        let (mut area, mut work, mut store) = small();
+        with_huge(OVER + line.len(), line, |book| {
+            replied(subject.book(book, &mut area, &mut work, &mut store, 1_000_001), "4@0")?;
+            replied(subject.book(book, &mut area, &mut work, &mut store, 9), "10@0")
+        })
+    });
+    suite.test(&format!("{label} book: a term area of 2^32 and 1 bytes"), || {
+        let (_, mut work, mut store) = small();
+        with_huge(OVER + 1, b"J", |area| replied(subject.book(line, area, &mut work, &mut store, 9), "1@0"))
+    });
+    suite.test(&format!("{label} book: a work area of 2^32 bytes and a bad book"), || {
+        let (mut area, _, mut store) = small();
+        with_huge(OVER, b"w", |work| {
+            replied(subject.book(line, &mut area, work, &mut store, 1_000_001), "4@0")?;
+            replied(subject.book(b"a\tx\n", &mut area, work, &mut store, 9), "25@1")
+        })
+    });
+    suite.test(&format!("{label} book: a store of 2^32 and 5 bytes"), || played_far(subject));
+}
+
+/// A book with a store of 2^32 and 5 bytes. Its pages are one piece again and again; behind the store they stay.
+fn played_far(subject: &dyn Controller) -> Outcome {
+    let mut pages = Pages::folded(PIECE, OVER / PIECE + 1)?;
+    let store = &mut pages.bytes()[..OVER + 5];
+    let (mut area, mut work) = ([7; 5], [7; 5]);
+    for (book, words, size) in [("a .II/b B(a)(a)/", "finished 2", 3), ("a RRRRRJ/", "no room 1", 0)] {
+        store[..PIECE].fill(b'#');
+        replied_with(subject.book(&books::written(book), &mut area, &mut work, store, 9), words, size)?;
+        equal("a byte that is not zero", store[..books::STORE].iter().position(|&byte| byte != 0), None)?;
+        let behind = store[books::STORE..PIECE].iter().position(|&byte| byte != b'#');
+        equal("a byte behind it that changed", behind, None)?;
+    }
+    replied(subject.book(b"a\tx\n", &mut area, &mut work, store, 9), "25@1")
+}
+
+/// A book with a work area of 2^32 and 5 bytes, all of which are zeros then. Its pages are one piece again and again.
+fn worked_far(subject: &dyn Controller) -> Outcome {
+    let mut pages = Pages::folded(PIECE, OVER / PIECE + 1)?;
+    let work = &mut pages.bytes()[..OVER + 5];
+    work[..PIECE].fill(b'#');
+    let (mut area, mut store) = ([7; 5], vec![7; books::STORE]);
+    let reply = subject.book(b"a\t.II\nb\tB(a)(a)\n", &mut area, work, &mut store, 9);
+    replied_with(reply, "finished 2", 3)?;
+    equal_bytes("the area", &area, b"BII\0\0")?;
+    equal("a byte that is not zero", work[..PIECE].iter().position(|&byte| byte != 0), None)
 }
 
 /// So many letters at a time make up what is longer than 2^32.
@@ -201,4 +254,9 @@ pub fn far_rows(suite: &mut Suite, label: &str, subject: impl Controller) {
 /// An entry of over 2^32 letters.
 pub fn far_catalogue(suite: &mut Suite, label: &str, subject: impl Controller) {
     suite.test(&format!("{label} catalogue: an index of 2^32 and 6 letters"), || index_entered(&subject));
+}
+
+/// A book with a work area of over 2^32 bytes.
+pub fn far_books(suite: &mut Suite, label: &str, subject: impl Controller) {
+    suite.test(&format!("{label} book: a work area of 2^32 and 5 bytes"), || worked_far(&subject));
 }

@@ -1,5 +1,7 @@
 //! Several threads that call at once, each on areas of its own: every reply and every lent byte is as alone.
 
+use crate::book_tests::random_lines;
+use crate::books::{book_of, STORE};
 use crate::chains::{chain, random_row, Row, PLACES};
 use crate::deep::ADVISED_STACK;
 use crate::derivations::{file_of, some, Layout};
@@ -24,6 +26,7 @@ enum Asked {
     Join(Join, Joined),
     Rows(Rows, Rung),
     Enter(Entry, Entered),
+    Book(Play, AfterPlay),
     Read(Vec<u8>, u64),
     Check(Vec<u8>, u64),
     Match([Vec<u8>; 2], u64),
@@ -38,6 +41,7 @@ impl Asked {
             Asked::Join(join, expected) => demand_join(subject, join, expected),
             Asked::Rows(rows, expected) => demand_rows(subject, rows, expected),
             Asked::Enter(entry, expected) => demand_entry(subject, entry, expected),
+            Asked::Book(play, expected) => demand_play(subject, play, expected),
             Asked::Read(slice, reply) => demand_read(subject, slice, *reply),
             Asked::Check(file, reply) => demand_check(subject, file, *reply),
             Asked::Match(files, reply) => demand_match(subject, [&files[0], &files[1]], *reply),
@@ -102,7 +106,20 @@ fn enter(random: &mut Random, text: &[u8]) -> Asked {
     Asked::Enter(entry, expected)
 }
 
-/// One thread's calls: all ten functions in turn.
+/// A book of a few lines, some of them long, every third with a line that uses what is not there.
+fn book(random: &mut Random, text: &[u8]) -> Asked {
+    let mut lines = random_lines(random, 6);
+    lines.push(("text".to_string(), text.to_vec()));
+    if random.once_in(3) {
+        lines.push(("last".to_string(), b"R(first)".to_vec()));
+    }
+    let area = random.rubbish(500);
+    let play = Play { book: book_of(&lines), work: area.clone(), area, store: vec![7; STORE + 3], fuel: 100 };
+    let expected = predict_play(&play);
+    Asked::Book(play, expected)
+}
+
+/// One thread's calls: all eleven functions in turn.
 fn calls(seed: u64) -> Vec<Asked> {
     let mut random = Random::new(seed);
     let second = Second::<Plain>::new();
@@ -118,6 +135,7 @@ fn calls(seed: u64) -> Vec<Asked> {
         asked.push(join(&mut random, &text));
         asked.push(rows(&mut random));
         asked.push(enter(&mut random, &text));
+        asked.push(book(&mut random, &text));
         asked.push(Asked::Read(text.clone(), second.read(&text)));
         asked.push(Asked::Check(file.clone(), second.check(&file)));
         let reply = second.match_claims(&file, &file);

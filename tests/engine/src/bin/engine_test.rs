@@ -78,6 +78,7 @@ fn tests(subject: impl Controller + Sync + Copy) -> i32 {
     huge::far_joins(&mut suite, "engine", subject);
     huge::far_rows(&mut suite, "engine", subject);
     huge::far_catalogue(&mut suite, "engine", subject);
+    huge::far_books(&mut suite, "engine", subject);
     threads::all(&mut suite, "engine", subject);
     machine_tests::all(&mut suite, "engine", subject);
     suite.end()
