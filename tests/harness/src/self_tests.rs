@@ -10,13 +10,13 @@ use crate::table::sweeping::TERMS;
 use crate::terms::{all_of_size, random_of_size, texts_of_size, ALL_BELLS, BELLS, NO_BELLS, TWO_BELLS};
 use crate::wrong_batch::Slip;
 use crate::wrong_batches::Batches;
-use crate::wrong_entries;
 use crate::{
     book_laws, book_tests, catalogue_laws, catalogue_tests, check_tests, compare_tests, count_tests,
     dearest_tests, deep, end_tests, finish_tests, huge, join_laws, join_tests, machine_rules, machine_tests,
     match_tests, program_tests, read_tests, result_tests, row_laws, row_tests, small_tests, step_tests,
     sweep_tests,
 };
+use crate::{wrong_book, wrong_entries, wrong_plays};
 use second::anywhere::{nearest_normal, successors, Nearest};
 use second::checking::check;
 use second::finishing::{run, Outcome as End};
@@ -276,6 +276,13 @@ fn on_bytes(suite: &mut Suite) {
     catalogue_tests::predicted(suite, "on bytes", subject);
 }
 
+/// The tests' own book on bytes: without a slip it is played as the one on trees is.
+fn books_on_bytes(suite: &mut Suite) {
+    let subject = wrong_plays::Wrong { subject: Second::<Machine>::new(), slip: &wrong_book::NONE };
+    book_tests::known(suite, "on bytes", subject);
+    book_tests::predicted(suite, "on bytes", subject);
+}
+
 /// What the search in every order finds for the terms that tell the order from others.
 fn other_orders(suite: &mut Suite) {
     suite.test("self: one use of a rule, at each full stop that one fits", every_use_of_a_rule);
@@ -307,6 +314,7 @@ pub fn all(suite: &mut Suite) {
     two_reducers(suite);
     batches(suite);
     on_bytes(suite);
+    books_on_bytes(suite);
     suite.test("self: the numbers of terms of each size", numbers_of_terms);
     suite.test("self: the runs of the terms of size 3", runs_of_size_3);
     suite.test("self: every step of every term of up to 7 letters", every_small_step);

@@ -3,9 +3,10 @@
 //!   engine_test              every test
 //!   engine_test --batches    the long runs alone
 //!   engine_test --bugs       the names of the bugs that can be planted in the engine's replies, of the slips in its
-//!                            catalogue, and of those in an engine of the tests' own that steps in batches
-//!   engine_test --bug NAME   every test on the engine with that bug; the catalogue's or the long runs on the one with
-//!                            that slip; what is past 2^32 on the one whose bug shows there alone
+//!                            catalogue and its books, and of those in an engine of the tests' own that steps in
+//!                            batches
+//!   engine_test --bug NAME   every test on the engine with that bug; the catalogue's, those of books or the long runs
+//!                            on the one with that slip; what is past 2^32 on the one whose bug shows there alone
 
 use engine::Linked;
 use harness::lent::predict_fast;
@@ -13,13 +14,12 @@ use harness::subject::Controller;
 use harness::suite::Suite;
 use harness::wrong::{bugs, Wrong};
 use harness::wrong_batches::{Batches, SLIPS};
-use harness::wrong_catalogue::Slip;
-use harness::wrong_entries::{self, slips};
 use harness::{
     book_laws, book_tests, catalogue_laws, catalogue_tests, check_tests, compare_tests, count_tests, deep,
     end_tests, finish_tests, huge, join_laws, join_tests, machine_tests, match_tests, read_tests, result_tests,
     row_laws, row_tests, small_tests, step_tests, threads,
 };
+use harness::{wrong_book, wrong_catalogue, wrong_entries, wrong_plays};
 
 /// What was written by hand: quick, and enough to see most of the bugs that are planted.
 fn known(suite: &mut Suite, subject: impl Controller + Copy) {
@@ -100,7 +100,7 @@ fn far_tests(subject: impl Controller + Copy) -> i32 {
 }
 
 /// The catalogue alone, or what of it is past 2^32, on the engine with a slip in it.
-fn catalogue_with(slip: &'static Slip) -> i32 {
+fn catalogue_with(slip: &'static wrong_catalogue::Slip) -> i32 {
     let mut suite = Suite::new();
     let wrong = wrong_entries::Wrong { subject: Linked, slip };
     match slip.far {
@@ -113,14 +113,28 @@ fn catalogue_with(slip: &'static Slip) -> i32 {
     suite.end()
 }
 
-/// Every test on the engine with a bug; the catalogue alone where the slip is in it, long runs alone on the one that has a slip in its batches, and joins and
-/// rows past 2^32 alone where the bug shows nowhere else.
+/// Books alone, or what of them is past 2^32, on the engine with a slip in them.
+fn books_with(slip: &'static wrong_book::Slip) -> i32 {
+    let mut suite = Suite::new();
+    let wrong = wrong_plays::Wrong { subject: Linked, slip };
+    match slip.far {
+        true => huge::books(&mut suite, "engine", &wrong),
+        false => book_tests::all(&mut suite, "engine", wrong),
+    }
+    suite.end()
+}
+
+/// Every test on the engine with a bug; the catalogue or books alone where the slip is in them, long runs alone on the
+/// one that has a slip in its batches, and joins and rows past 2^32 alone where the bug shows nowhere else.
 fn with_bug(name: &str) -> i32 {
     if let Some(&(_, slip)) = SLIPS.iter().find(|slip| slip.0 == name) {
         return batch_tests(Batches { slip });
     }
-    if let Some(slip) = slips().find(|slip| slip.name == name) {
+    if let Some(slip) = wrong_entries::slips().find(|slip| slip.name == name) {
         return catalogue_with(slip);
+    }
+    if let Some(slip) = wrong_plays::slips().find(|slip| slip.name == name) {
+        return books_with(slip);
     }
     let bug = bugs().iter().find(|bug| bug.name == name).expect("a bug of that name");
     let wrong = Wrong { subject: Linked, bug };
@@ -137,8 +151,9 @@ fn asked() -> i32 {
         ["--batches"] => batch_tests(Linked),
         ["--bugs"] => {
             let in_batches = SLIPS.iter().map(|(name, _)| *name);
-            let in_entries = slips().map(|slip| slip.name);
-            let names = bugs().iter().map(|bug| bug.name).chain(in_entries).chain(in_batches);
+            let in_entries = wrong_entries::slips().map(|slip| slip.name);
+            let in_books = wrong_plays::slips().map(|slip| slip.name);
+            let names = bugs().iter().map(|bug| bug.name).chain(in_entries).chain(in_books).chain(in_batches);
             names.for_each(|name| println!("{name}"));
             0
         }
