@@ -1,5 +1,5 @@
 /*
- * The engine for the controller's firmware: ten functions on byte pointers and numbers.
+ * The engine for the controller's firmware: eleven functions on byte pointers and numbers.
  *
  *     controller_read             is this text one term?                      answers its size
  *     controller_step             one step of a term, in place                answers the rule used
@@ -9,6 +9,7 @@
  *     controller_join             one piece after another, as one term        answers its size
  *     controller_rows             the rows of a piece, for the hammers        answers how many, and how many differ
  *     controller_enter            files a result in the catalogue             answers its number there
+ *     controller_book             plays pieces that are built from pieces     answers the last line that it played
  *     controller_check            does every line of a derivation follow?     answers how many lines
  *     controller_match            do two derivations claim the same type?     answers yes or no
  *
@@ -23,8 +24,9 @@
  *   Every call returns. It reads and writes nothing but the buffers lent to it and its stack, keeps nothing
  *   between calls and allocates nothing, so several threads may call at once, each with buffers of its own.
  *   A refused call has changed no lent byte. After any other call that lends a term area, the area holds a
- *   term and then zeros to its end, and the work area holds zeros from end to end. What a catalogue has to keep
- *   from call to call stands in the store that the caller lends, and nowhere else.
+ *   term and then zeros to its end, zeros alone after a book that did not finish, and the work area holds zeros
+ *   from end to end. What a catalogue has to keep from call to call stands in the store that the caller lends, and
+ *   nowhere else.
  *   What a call answers and leaves is proved for all inputs; docs/PROMISES.md says where.
  *
  * RETURNS
@@ -50,19 +52,19 @@ extern "C" {
 #define CONTROLLER_REFUSED(reply) (CONTROLLER_CODE(reply) < 100)
 
 /*
- * Of a refusal: where the fault is, a byte of the term counted from 0, or a row of the piece or a line of the file
- * counted from 1.
+ * Of a refusal: where the fault is, a byte of the term counted from 0, or a row of the piece or a line of the file or
+ * the book counted from 1.
  * Of CONTROLLER_WHOLE: where the term ends, which is its size.
  */
 #define CONTROLLER_PLACE(reply) ((uint64_t)(reply) >> 8)
 
-/* Of any other answer: a rule's number, a count of steps, of rows or of lines, or a number in the catalogue, as stands
-   with the constant. */
+/* Of any other answer: a rule's number, a count of steps, of rows or of lines, a number in the catalogue, or a line of
+   the book, as stands with the constant or the function. */
 #define CONTROLLER_VALUE(reply) ((uint32_t)(((reply) >> 8) & 0xffffff))
 
-/* Of an answer of controller_step, controller_finish, controller_finish_counted and controller_join: the size of
-   the term that now stands in the area. It has 32 bits, which only a join can exceed. Of CONTROLLER_RUNG: the
-   number of different rows. */
+/* Of an answer of controller_step, controller_finish, controller_finish_counted, controller_join and controller_book:
+   the size of the term that now stands in the area, 0 where a book did not finish. It has 32 bits, which only a join
+   can exceed. Of CONTROLLER_RUNG: the number of different rows. */
 #define CONTROLLER_SIZE(reply) ((uint32_t)((reply) >> 32))
 
 /* ---- Limits -------------------------------------------------------------------------------------------- */
@@ -79,6 +81,10 @@ enum {
     CONTROLLER_STORE_SIZE = 67584,   /* bytes that a catalogue takes */
     CONTROLLER_MOST_LETTERS = 65536, /* bytes of the results in a catalogue, all together */
     CONTROLLER_MOST_ENTRIES = 256,   /* results in a catalogue */
+    CONTROLLER_BOOK_STORE = 65536,   /* bytes that the results of a book take, all together */
+    CONTROLLER_BOOK_LINES = 256,     /* lines of a book */
+    CONTROLLER_LARGEST_BOOK = 65536, /* bytes of a book */
+    CONTROLLER_LONGEST_NAME = 8,     /* letters of a name in a book */
     CONTROLLER_LARGEST_FILE = 65536, /* bytes of a derivation file */
     CONTROLLER_MOST_LINES = 1024     /* lines of a derivation file */
 };
@@ -90,7 +96,7 @@ enum {
     CONTROLLER_AREA_TOO_LONG = 1,    /* a term area is longer than CONTROLLER_LARGEST_AREA; place 0 */
     CONTROLLER_WORK_TOO_SHORT = 2,   /* the work area is shorter than a term area, or there are fewer than
                                         CONTROLLER_COUNTS_SIZE bytes for counts, or than CONTROLLER_STORE_SIZE
-                                        for a catalogue; place 0 */
+                                        for a catalogue, or than CONTROLLER_BOOK_STORE for a book; place 0 */
     CONTROLLER_LENGTH_TOO_LONG = 3,  /* a term is said to be longer than its area; place 0 */
     CONTROLLER_FUEL_TOO_HIGH = 4,    /* the fuel is more than CONTROLLER_MOST_FUEL; place 0 */
     CONTROLLER_NO_LETTER = 5,        /* the byte at that place is none of J R H A I B . and no bell: 1 to 9, 0, E, T */
@@ -107,17 +113,26 @@ enum {
     CONTROLLER_JOIN_TOO_LARGE = 31   /* the join of two terms is larger than the area; place 0 */
 };
 
-/* Of the functions that take a derivation file. */
+/* Of the functions that take a derivation file; the first three of controller_book too. */
 enum {
-    CONTROLLER_FILE_TOO_LONG = 10,   /* the file is longer than CONTROLLER_LARGEST_FILE; line 0 */
-    CONTROLLER_FILE_EMPTY = 11,      /* the file has no byte; line 0 */
-    CONTROLLER_NO_LINE_END = 12,     /* the file does not end with a line feed; line 0 */
+    CONTROLLER_FILE_TOO_LONG = 10,   /* the file is longer than CONTROLLER_LARGEST_FILE, or the book than
+                                        CONTROLLER_LARGEST_BOOK; line 0 */
+    CONTROLLER_FILE_EMPTY = 11,      /* the file or the book has no byte; line 0 */
+    CONTROLLER_NO_LINE_END = 12,     /* the file or the book does not end with a line feed; line 0 */
     CONTROLLER_TOO_MANY_LINES = 13,  /* the file has more than CONTROLLER_MOST_LINES; line 0 */
     CONTROLLER_NOT_SIX_FIELDS = 14,  /* that line has more or fewer than six fields */
     CONTROLLER_MALFORMED = 15,       /* that line's context, term or type is none */
     CONTROLLER_UNKNOWN_RULE = 16,    /* that line's rule is none of J R H f A I B s K */
     CONTROLLER_BAD_PREMISE = 17,     /* a premise of that line is not what its rule has there */
     CONTROLLER_NO_INSTANCE = 18      /* that line does not follow by its rule from its premises */
+};
+
+/* Of a line of a book. */
+enum {
+    CONTROLLER_BAD_LINE = 25,        /* that line is not a name, a tab and one term with uses; or it is one more than
+                                        CONTROLLER_BOOK_LINES */
+    CONTROLLER_NAME_TAKEN = 26,      /* an earlier line has that line's name */
+    CONTROLLER_NAME_UNKNOWN = 27     /* that line uses a name that no earlier line has */
 };
 
 /* ---- The functions and their answers ------------------------------------------------------------------- */
@@ -247,6 +262,27 @@ enum {
 uint64_t controller_enter(const uint8_t *term, size_t term_size, uint8_t *store, size_t store_size);
 
 /*
+ * Plays a book: lines that each end with a line feed and are a name, a tab and a term. A name is one to
+ * CONTROLLER_LONGEST_NAME small letters. In a term a name in round brackets may stand wherever a term can, and stands
+ * for the line of that name, which comes earlier. From the first line on, results are put in the place of such uses,
+ * and the term so made is finished in the area, each with the whole fuel. The last line's result is the book's: what
+ * that line comes to where every use is written out, however large that would be.
+ *   Areas as for controller_step; they may hold anything. Results are kept in the store in the meantime: it takes
+ *   CONTROLLER_BOOK_STORE bytes, which may hold anything and hold zeros afterwards. There may be more bytes: those
+ *   behind them stay as they are. The book is only read.
+ *   Refusals: CONTROLLER_AREA_TOO_LONG, CONTROLLER_WORK_TOO_SHORT, CONTROLLER_FUEL_TOO_HIGH,
+ *   CONTROLLER_FILE_TOO_LONG, CONTROLLER_FILE_EMPTY, CONTROLLER_NO_LINE_END, in this order and all at 0; then the
+ *   first bad line with the first of CONTROLLER_BAD_LINE to CONTROLLER_NAME_UNKNOWN that fits it. All lines are
+ *   tested before one is played.
+ *   Answers CONTROLLER_FINISHED with the number of lines for CONTROLLER_VALUE, and the last result in the area; or
+ *   CONTROLLER_SPENT or CONTROLLER_NO_ROOM with the first line that did not finish, size 0, and zeros in the area.
+ *   There is no room also where a line with its results in place is larger than the area, and where its result is
+ *   larger than what is left of the store.
+ */
+uint64_t controller_book(const uint8_t *book, size_t book_size, uint8_t *area, size_t area_size, uint8_t *work,
+                         size_t work_size, uint8_t *store, size_t store_size, uint64_t fuel);
+
+/*
  * Checks a derivation file.
  *   Refusals: CONTROLLER_FILE_TOO_LONG, CONTROLLER_FILE_EMPTY, CONTROLLER_NO_LINE_END,
  *   CONTROLLER_TOO_MANY_LINES, in this order; then the first bad line with the first of
@@ -360,6 +396,15 @@ static inline uint64_t controller_call_enter(const uint8_t *term, size_t term_si
                             store_size);
 }
 
+static inline uint64_t controller_call_book(const uint8_t *book, size_t book_size, uint8_t *area, size_t area_size,
+                                            uint8_t *work, size_t work_size, uint8_t *store, size_t store_size,
+                                            uint64_t fuel)
+{
+    return controller_book(controller_some(book, book_size), book_size, controller_lent(area, area_size), area_size,
+                           controller_lent(work, work_size), work_size, controller_lent(store, store_size),
+                           store_size, fuel);
+}
+
 static inline uint64_t controller_call_check(const uint8_t *file, size_t file_size)
 {
     return controller_check(controller_some(file, file_size), file_size);
@@ -387,6 +432,8 @@ static inline uint64_t controller_call_match(const uint8_t *first, size_t first_
     controller_call_rows(term, term_size, bells, table, table_size)
 #define controller_enter(term, term_size, store, store_size) \
     controller_call_enter(term, term_size, store, store_size)
+#define controller_book(book, book_size, area, area_size, work, work_size, store, store_size, fuel) \
+    controller_call_book(book, book_size, area, area_size, work, work_size, store, store_size, fuel)
 #define controller_check(file, file_size) controller_call_check(file, file_size)
 #define controller_match(first, first_size, second, second_size) \
     controller_call_match(first, first_size, second, second_size)

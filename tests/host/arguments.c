@@ -6,13 +6,13 @@
 #include <inttypes.h>
 #include <stdio.h>
 
-static uint8_t a[3], b[3], c[3];
+static uint8_t a[3], b[3], c[3], d[3];
 
 static const char *name_of(const uint8_t *bytes)
 {
     if (bytes == NULL)
         return "null";
-    return bytes == a ? "a" : bytes == b ? "b" : bytes == c ? "c" : "another";
+    return bytes == a ? "a" : bytes == b ? "b" : bytes == c ? "c" : bytes == d ? "d" : "another";
 }
 
 #ifdef __cplusplus
@@ -75,6 +75,14 @@ uint64_t(controller_enter)(const uint8_t *term, size_t term_size, uint8_t *store
     return 10;
 }
 
+uint64_t(controller_book)(const uint8_t *book, size_t book_size, uint8_t *area, size_t area_size, uint8_t *work,
+                          size_t work_size, uint8_t *store, size_t store_size, uint64_t fuel)
+{
+    printf("book %s %zu %s %zu %s %zu %s %zu %" PRIu64 "\n", name_of(book), book_size, name_of(area), area_size,
+           name_of(work), work_size, name_of(store), store_size, fuel);
+    return 11;
+}
+
 uint64_t(controller_check)(const uint8_t *file, size_t file_size)
 {
     printf("check %s %zu\n", name_of(file), file_size);
@@ -128,6 +136,13 @@ int main(void)
     returned(controller_enter(a, 1, NULL, 0));
     returned(controller_enter(NULL, 0, NULL, 0));
     returned(controller_enter(NULL, 7, NULL, 8));
+    returned(controller_book(a, 1, b, 2, c, 3, d, 4, 5));
+    returned(controller_book(NULL, 0, b, 2, c, 3, d, 4, 5));
+    returned(controller_book(a, 1, NULL, 0, c, 3, d, 4, 5));
+    returned(controller_book(a, 1, b, 2, NULL, 0, d, 4, 5));
+    returned(controller_book(a, 1, b, 2, c, 3, NULL, 0, 5));
+    returned(controller_book(NULL, 0, NULL, 0, NULL, 0, NULL, 0, 0));
+    returned(controller_book(NULL, 6, NULL, 7, NULL, 8, NULL, 9, 10));
     returned(controller_check(a, 1));
     returned(controller_check(NULL, 0));
     returned(controller_match(a, 1, b, 2));
@@ -143,6 +158,11 @@ int main(void)
     returned(controller_rows(a, 0, 0, b, n++));
     returned(controller_enter(a, n++, b, 0));
     returned(controller_enter(a, 0, b, n++));
+    returned(controller_book(a, n++, b, 0, c, 0, d, 0, 0));
+    returned(controller_book(a, 0, b, n++, c, 0, d, 0, 0));
+    returned(controller_book(a, 0, b, 0, c, n++, d, 0, 0));
+    returned(controller_book(a, 0, b, 0, c, 0, d, n++, 0));
+    returned(controller_book(a, 0, b, 0, c, 0, d, 0, n++));
     printf("n is %zu\n", n);
     return 0;
 }

@@ -1,4 +1,4 @@
-/* A host like the firmware. It calls the ten functions on a table of inputs and prints each reply and every
+/* A host like the firmware. It calls the eleven functions on a table of inputs and prints each reply and every
  * lent byte afterwards; what it must print is written by hand in expected.txt. It knows the engine from its
  * header alone: no code and no limit stands here as a number.
  *
@@ -23,12 +23,13 @@ static const constant codes[] = {
     CONSTANT(NO_LETTER),      CONSTANT(NOT_WHOLE),      CONSTANT(BEYOND),          CONSTANT(FILE_TOO_LONG),
     CONSTANT(FILE_EMPTY),     CONSTANT(NO_LINE_END),    CONSTANT(TOO_MANY_LINES),  CONSTANT(NOT_SIX_FIELDS),
     CONSTANT(MALFORMED),      CONSTANT(UNKNOWN_RULE),   CONSTANT(BAD_PREMISE),     CONSTANT(NO_INSTANCE),
-    CONSTANT(NO_CHAIN),       CONSTANT(NO_TABLE),       CONSTANT(BAD_ROW),         CONSTANT(NO_CATALOGUE),
-    CONSTANT(NOT_NORMAL),     CONSTANT(CATALOGUE_FULL), CONSTANT(JOIN_TOO_LARGE),  CONSTANT(NORMAL),
-    CONSTANT(STEP_NO_ROOM),   CONSTANT(STEPPED),        CONSTANT(WHOLE),           CONSTANT(FINISHED),
-    CONSTANT(SPENT),          CONSTANT(NO_ROOM),        CONSTANT(SAME),            CONSTANT(DIFFERENT),
-    CONSTANT(UNDECIDED),      CONSTANT(ACCEPTED),       CONSTANT(RUNG),            CONSTANT(ENTERED),
-    CONSTANT(JOINED),         CONSTANT(MATCH),          CONSTANT(NO_MATCH),
+    CONSTANT(NO_CHAIN),       CONSTANT(NO_TABLE),       CONSTANT(BAD_ROW),         CONSTANT(BAD_LINE),
+    CONSTANT(NAME_TAKEN),     CONSTANT(NAME_UNKNOWN),   CONSTANT(NO_CATALOGUE),    CONSTANT(NOT_NORMAL),
+    CONSTANT(CATALOGUE_FULL), CONSTANT(JOIN_TOO_LARGE), CONSTANT(NORMAL),          CONSTANT(STEP_NO_ROOM),
+    CONSTANT(STEPPED),        CONSTANT(WHOLE),          CONSTANT(FINISHED),        CONSTANT(SPENT),
+    CONSTANT(NO_ROOM),        CONSTANT(SAME),           CONSTANT(DIFFERENT),       CONSTANT(UNDECIDED),
+    CONSTANT(ACCEPTED),       CONSTANT(RUNG),           CONSTANT(ENTERED),         CONSTANT(JOINED),
+    CONSTANT(MATCH),          CONSTANT(NO_MATCH),
 };
 
 static const constant limits[] = {
@@ -45,6 +46,10 @@ static const constant limits[] = {
     CONSTANT(STORE_SIZE),
     CONSTANT(MOST_ENTRIES),
     CONSTANT(MOST_LETTERS),
+    CONSTANT(BOOK_STORE),
+    CONSTANT(BOOK_LINES),
+    CONSTANT(LARGEST_BOOK),
+    CONSTANT(LONGEST_NAME),
 };
 
 #define COUNT(table) (sizeof(table) / sizeof(table)[0])
@@ -533,6 +538,111 @@ static void enter_many(void)
     free(index);
 }
 
+/* Books, written with / for a line feed and a space for a tab. Of the store it is printed how many of its bytes are
+ * zeros afterwards, and what is behind it; of a long area its first bytes. */
+
+static void play_bytes(const char *name, const uint8_t *book, size_t book_size, size_t area_size, size_t work_size,
+                       size_t store_size, uint64_t fuel)
+{
+    uint8_t *area = block("", 0, area_size, '#');
+    uint8_t *work = work_of(work_size);
+    uint8_t *store = block("", 0, store_size, 's');
+    size_t whole = CONTROLLER_BOOK_STORE, zeros = 0;
+    size_t own = store_size < whole ? store_size : whole;
+    printf("book %s", name);
+    print_reply(controller_book(book, book_size, area, area_size, work, work_size, store, store_size, fuel));
+    for (size_t place = 0; place < own; place++)
+        zeros += store[place] == 0;
+    print_bytes("area", area, area_size < 16 ? area_size : 16);
+    print_bytes("work", work, work_size < 16 ? work_size : 16);
+    printf(" zeros %zu of %zu", zeros, own);
+    print_bytes("behind", store + own, store_size - own);
+    putchar('\n');
+    free(area);
+    free(work);
+    free(store);
+}
+
+static uint8_t *book_of(const char *text, size_t size)
+{
+    uint8_t *book = block(text, size, size, 0);
+    for (size_t place = 0; place < size; place++)
+        book[place] = (uint8_t)(book[place] == '/' ? '\n' : book[place] == ' ' ? '\t' : book[place]);
+    return book;
+}
+
+static void play_in(const char *text, size_t area_size, size_t work_size, size_t store_size, uint64_t fuel)
+{
+    size_t size = strlen(text);
+    uint8_t *book = book_of(text, size);
+    uint8_t *before = book_of(text, size);
+    play_bytes(text, book, size, area_size, work_size, store_size, fuel);
+    if (memcmp(book, before, size) != 0)
+        printf("the book CHANGED\n");
+    free(book);
+    free(before);
+}
+
+/* In an area of this size, with all else that is lent as it has to be. */
+static void play(const char *text, size_t area_size, uint64_t fuel)
+{
+    play_in(text, area_size, area_size, CONTROLLER_BOOK_STORE, fuel);
+}
+
+/* A book of a line of so many bytes. */
+static void play_long(size_t size)
+{
+    uint8_t *book = block("a\t", 2, size, 'R');
+    char name[64];
+    book[size - 2] = 'J';
+    book[size - 1] = '\n';
+    snprintf(name, sizeof name, "of a line of %zu bytes", size);
+    play_bytes(name, book, size, CONTROLLER_LARGEST_AREA, CONTROLLER_LARGEST_AREA, CONTROLLER_BOOK_STORE, 9);
+    free(book);
+}
+
+/* A line whose name has so many letters. */
+static void play_name(size_t letters)
+{
+    uint8_t *book = block("", 0, letters + 3, 'n');
+    char name[64];
+    memcpy(book + letters, "\tJ\n", 3);
+    snprintf(name, sizeof name, "of a name of %zu letters", letters);
+    play_bytes(name, book, letters + 3, 9, 9, CONTROLLER_BOOK_STORE, 9);
+    free(book);
+}
+
+/* So many lines, each with a name of two letters. */
+static void play_lines(size_t lines)
+{
+    uint8_t *book = block("", 0, 5 * lines, 0);
+    char name[64];
+    for (size_t line = 0; line < lines; line++) {
+        book[5 * line] = (uint8_t)('a' + line / 26);
+        book[5 * line + 1] = (uint8_t)('a' + line % 26);
+        memcpy(book + 5 * line + 2, "\tT\n", 3);
+    }
+    snprintf(name, sizeof name, "of %zu lines", lines);
+    play_bytes(name, book, 5 * lines, 9, 9, CONTROLLER_BOOK_STORE, 9);
+    free(book);
+}
+
+/* A line with as many letters as an area may have, and further lines. */
+static void play_letters(const char *others, size_t store_size)
+{
+    size_t letters = CONTROLLER_LARGEST_AREA, size = letters + 3 + strlen(others);
+    uint8_t *book = block("a\t", 2, size, 'R');
+    uint8_t *behind = book_of(others, strlen(others));
+    char name[64];
+    book[letters + 1] = 'J';
+    book[letters + 2] = '\n';
+    memcpy(book + letters + 3, behind, strlen(others));
+    snprintf(name, sizeof name, "of %zu letters, then %s", letters, others);
+    play_bytes(name, book, size, letters, letters, store_size, CONTROLLER_MOST_FUEL);
+    free(book);
+    free(behind);
+}
+
 /* Checking of a file and of one byte again and again; matching of two files. */
 
 static void check_bytes(const char *name, const char *file, size_t size)
@@ -859,6 +969,54 @@ static void entries(void)
     enter_many();
 }
 
+/* What is lent, then the book as a whole, then line by line; then the lines are played. */
+static void books(void)
+{
+    size_t store = CONTROLLER_BOOK_STORE, largest = CONTROLLER_LARGEST_AREA;
+    const char *good = "a .II/b B(a)(a)/";
+    play(good, 5, 1);
+    play("a J/b R(a)/c R(b)/", 3, 0);
+    play_in("a 1/b 2/c AB(a)B(b)IHRJHRRJJ/d .(c)3/", 40, 41, store + 3, 11);
+    play("first .BII.JRJ/again .BII.JRJ/last H(first)(again)/", 12, 6);
+    play("a J/", 0, 9);
+    play_in("a J/", 0, 3, store, 9);
+    play("a .II/b I/", 4, 0);
+    play_in("a J/b .AIHJJAIHJJ/", 19, 20, store + 3, 3);
+    play_in("a RJ/b B(a)(a)/", 4, 6, store + 3, 9);
+    play("a RJ/b B(a)(a)/", 5, 9);
+    play("a J/b .BII.JRJ/", 11, 9);
+    play("a R(a)/", 4, 9);
+    play("a (b)/b J/", 4, 9);
+    play("a J/a R(b)/", 4, 9);
+    play("a J/a R(/", 4, 9);
+    play("a .II/b .II/c JJ/", 4, 0);
+    play("/", 4, 9);
+    play("a  J/", 4, 9);
+    play("a ()/", 4, 9);
+    play("a ((b))/", 4, 9);
+    play("A J/", 4, 9);
+    play("", 4, 9);
+    play("a J", 4, 9);
+    play("a J/b", 4, 9);
+    play(good, 5, CONTROLLER_MOST_FUEL);
+    play(good, 5, CONTROLLER_MOST_FUEL + 1);
+    play("", 5, CONTROLLER_MOST_FUEL + 1);
+    play_in(good, 5, 4, store, CONTROLLER_MOST_FUEL + 1);
+    play_in(good, 5, 5, store - 1, CONTROLLER_MOST_FUEL + 1);
+    play_in(good, 5, 5, 3, 9);
+    play(good, largest, 1);
+    play_in(good, largest + 1, 4, 3, CONTROLLER_MOST_FUEL + 1);
+    play_name(CONTROLLER_LONGEST_NAME);
+    play_name(CONTROLLER_LONGEST_NAME + 1);
+    play_lines(CONTROLLER_BOOK_LINES);
+    play_lines(CONTROLLER_BOOK_LINES + 1);
+    play_long(CONTROLLER_LARGEST_BOOK);
+    play_long(CONTROLLER_LARGEST_BOOK + 1);
+    play_letters("b (a)/c (a)/d (a)/", store);
+    play_letters("b (a)/c (a)/d (a)/e J/", store + 3);
+    play_letters("b R(a)/", store);
+}
+
 #define LINE_J "*a1\tJ\ta\tJ\t-\t-\n"
 #define LINE_I "1\tI\t1\tI\t-\t-\n"
 #define LINE_K "1\t1\tb\tK\t-\t-\n"
@@ -951,6 +1109,17 @@ static void nulls(void)
     print_reply(controller_enter(NULL, 0, NULL, 0));
     printf("\nenter null");
     print_reply(controller_enter(NULL, 0, store, CONTROLLER_STORE_SIZE));
+    printf("\nbook null");
+    print_reply(controller_book(NULL, 0, area, sizeof area, work, sizeof work, store, CONTROLLER_STORE_SIZE, 5));
+    printf("\nbook null, all else null");
+    print_reply(controller_book(NULL, 0, NULL, 0, NULL, 0, NULL, 0, 5));
+    printf("\nbook J, store null");
+    print_reply(controller_book((const uint8_t *)"a\tJ\n", 4, area, sizeof area, work, sizeof work, NULL, 0, 5));
+    printf("\nbook J, work null");
+    print_reply(controller_book((const uint8_t *)"a\tJ\n", 4, area, sizeof area, NULL, 0, store,
+                                CONTROLLER_STORE_SIZE, 5));
+    printf("\nbook J, areas null");
+    print_reply(controller_book((const uint8_t *)"a\tJ\n", 4, NULL, 0, NULL, 0, store, CONTROLLER_STORE_SIZE, 5));
     printf("\ncheck null");
     print_reply(controller_check(NULL, 0));
     printf("\nmatch null and a file");
@@ -972,6 +1141,8 @@ static void pointers(void)
     uint64_t (*joining)(const uint8_t *, size_t, const uint8_t *, size_t, uint8_t *, size_t) = &controller_join;
     uint64_t (*ringing)(const uint8_t *, size_t, size_t, uint8_t *, size_t) = &controller_rows;
     uint64_t (*entering)(const uint8_t *, size_t, uint8_t *, size_t) = &controller_enter;
+    uint64_t (*playing)(const uint8_t *, size_t, uint8_t *, size_t, uint8_t *, size_t, uint8_t *, size_t, uint64_t) =
+        &controller_book;
     uint8_t table[] = {'#', '#', '#'};
     uint8_t area[] = {'.', 'I', 'J'};
     uint8_t both[2 + CONTROLLER_JOIN_FRAME];
@@ -987,6 +1158,10 @@ static void pointers(void)
     printf("\nenter through a pointer");
     print_reply(entering(area + 1, 1, table, sizeof table));
     print_bytes("store", table, sizeof table);
+    printf("\nbook through a pointer");
+    print_reply(playing(area, sizeof area, both, 2, work, sizeof work, table, sizeof table, 5));
+    print_bytes("area", both, 2);
+    print_bytes("work", work, sizeof work);
     printf("\nstep through a pointer");
     print_reply(stepping(area, sizeof area, sizeof area, work, sizeof work));
     print_bytes("area", area, sizeof area);
@@ -1014,6 +1189,7 @@ int main(int count, char **words)
     joins();
     pieces();
     entries();
+    books();
     checks();
     matches();
     nulls();
