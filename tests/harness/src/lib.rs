@@ -56,6 +56,7 @@ pub mod wrong_dearest;
 pub mod wrong_ends;
 pub mod wrong_entries;
 pub mod wrong_joins;
+pub mod wrong_played;
 pub mod wrong_plays;
 pub mod wrong_print;
 pub mod wrong_rows;

@@ -1,5 +1,7 @@
-//! The five programs, each input given to a process of its own.
+//! The six programs, each input given to a process of its own.
 
+use crate::book_tests;
+use crate::books::book_of;
 use crate::check_tests::{within_limits, LAYOUTS};
 use crate::damage::damaged;
 use crate::derivations::{file_of, some};
@@ -7,9 +9,11 @@ use crate::random::Random;
 use crate::subject::{Programs, Second};
 use crate::suite::{equal, equal_bytes, shown, Outcome, Suite};
 use crate::table::dearest::dearest_rows;
+use crate::table::playing::{play_rows, rows_of_books};
 use crate::table::programs::{check_rows, finish_rows, mix_rows, Row};
 use crate::table::sweeping::sweep_rows;
 use crate::terms::random_of_size;
+use second::machine::Machine;
 use second::plain::Plain;
 use std::io::{Read, Write};
 use std::path::{Path, PathBuf};
@@ -74,6 +78,10 @@ impl Programs for &Processes {
     fn dearest(&self, input: &[u8]) -> Result<Vec<u8>, String> {
         self.run("dearest", input, usize::MAX, Duration::ZERO)
     }
+
+    fn play_book(&self, input: &[u8]) -> Result<Vec<u8>, String> {
+        self.run("play_book", input, usize::MAX, Duration::ZERO)
+    }
 }
 
 /// Demands that exactly this was printed.
@@ -106,6 +114,10 @@ fn agree_check(subject: &dyn Programs, input: &[u8]) -> Outcome {
     printed(subject.check_file(input), &Second::<Plain>::new().check_file(input)?, input)
 }
 
+fn agree_play(subject: &dyn Programs, input: &[u8]) -> Outcome {
+    printed(subject.play_book(input), &Second::<Machine>::new().play_book(input)?, input)
+}
+
 /// A line of the finishing program's shape.
 fn random_line(random: &mut Random) -> Vec<u8> {
     let size = random.between(1, 40);
@@ -134,6 +146,17 @@ fn random_files(subject: &dyn Programs) -> Outcome {
             agree_check(subject, &file)?;
             agree_check(subject, &damaged(&mut random, &file, b"\t\n-1ab>*JI.K"))?;
         }
+    }
+    Ok(())
+}
+
+/// Random books, and damaged ones; most of them finish.
+fn random_books(subject: &dyn Programs) -> Outcome {
+    let mut random = Random::new(55);
+    for _ in 0..150 {
+        let book = book_of(&book_tests::random_lines(&mut random, 6));
+        agree_play(subject, &book)?;
+        agree_play(subject, &damaged(&mut random, &book, b"\t\n()abJI.RT"))?;
     }
     Ok(())
 }
@@ -186,6 +209,19 @@ pub fn predicted_checking(suite: &mut Suite, label: &str, subject: impl Programs
     suite.test(&format!("{label} check_file program: random files"), || random_files(&subject));
 }
 
+/// Books whose output is written by hand, and those of the table of books that the program's limits allow.
+pub fn known_playing(suite: &mut Suite, label: &str, subject: impl Programs) {
+    for row in play_rows().into_iter().chain(rows_of_books()) {
+        let name = format!("{label} play_book program: {}", row.name);
+        suite.test(&name, || printed(subject.play_book(&row.input), &with_line_feed(&row.printed), &row.input));
+    }
+}
+
+/// Books whose output the second implementation predicts.
+pub fn predicted_playing(suite: &mut Suite, label: &str, subject: impl Programs) {
+    suite.test(&format!("{label} play_book program: random books"), || random_books(&subject));
+}
+
 /// A program started by a shell with one of its streams redirected; what it prints and what it complains of.
 fn redirected(program: &Path, redirection: &str, input: &[u8]) -> Result<[Vec<u8>; 2], String> {
     let mut command = Command::new("sh");
@@ -212,6 +248,7 @@ pub fn failing(suite: &mut Suite, label: &str, program: &str, processes: &Proces
     let inputs: [&[u8]; 2] = match program {
         "finish" | "rule_mix" => [b"6\t12\t.BII.JRJ\n", b"x"],
         "sweep" | "dearest" => [b"3\t10\t20\n", b"x"],
+        "play_book" => [b"a\t.II\nb\tB(a)(a)\n", b"x"],
         _ => [b"1\tI\t1\tI\t-\t-\n", b"x"],
     };
     let streams = [
@@ -235,6 +272,7 @@ fn rows_of(program: &str) -> Vec<Row> {
         "rule_mix" => mix_rows(),
         "sweep" => sweep_rows(),
         "dearest" => dearest_rows(),
+        "play_book" => play_rows(),
         _ => check_rows(),
     }
 }

@@ -222,6 +222,7 @@ fn known(suite: &mut Suite) {
     program_tests::known_finishing(suite, "second", plain);
     program_tests::known_mixing(suite, "second", plain);
     program_tests::known_checking(suite, "second", plain);
+    program_tests::known_playing(suite, "second", fast);
     huge::all(suite, "second", plain);
 }
 

@@ -30,13 +30,14 @@ pub trait Controller {
     fn match_claims(&self, first: &[u8], second: &[u8]) -> u64;
 }
 
-/// The five programs: what each prints for its input.
+/// The six programs: what each prints for its input.
 pub trait Programs {
     fn finish(&self, input: &[u8]) -> Result<Vec<u8>, String>;
     fn rule_mix(&self, input: &[u8]) -> Result<Vec<u8>, String>;
     fn check_file(&self, input: &[u8]) -> Result<Vec<u8>, String>;
     fn sweep(&self, input: &[u8]) -> Result<Vec<u8>, String>;
     fn dearest(&self, input: &[u8]) -> Result<Vec<u8>, String>;
+    fn play_book(&self, input: &[u8]) -> Result<Vec<u8>, String>;
 }
 
 /// The second implementation, with one of its two reducers.
@@ -130,5 +131,9 @@ impl<R: Reducer> Programs for Second<R> {
 
     fn dearest(&self, input: &[u8]) -> Result<Vec<u8>, String> {
         Ok(dearest::dearest_program::<R>(input))
+    }
+
+    fn play_book(&self, input: &[u8]) -> Result<Vec<u8>, String> {
+        Ok(book::play_program::<R>(input))
     }
 }

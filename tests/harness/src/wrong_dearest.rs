@@ -252,4 +252,8 @@ impl<P: Programs> Programs for Wrong<'_, P> {
             _ => Ok(printed),
         }
     }
+
+    fn play_book(&self, input: &[u8]) -> Result<Vec<u8>, String> {
+        self.programs.play_book(input)
+    }
 }

@@ -1,13 +1,13 @@
-//! Runs the five programs of the engine on every program row.
+//! Runs the six programs of the engine on every program row.
 //!
 //!   programs_test FOLDER              every test; FOLDER holds the programs
-//!   programs_test FOLDER --bugs       the names of the bugs that can be planted in what rule_mix prints, and in sweep
-//!                                     and dearest
+//!   programs_test FOLDER --bugs       the names of the bugs that can be planted in what rule_mix and play_book print,
+//!                                     and in sweep and dearest
 //!   programs_test FOLDER --bug NAME   the tests of that program with that bug
 
 use harness::program_tests::*;
 use harness::suite::Suite;
-use harness::{dearest_tests, sweep_tests, wrong_dearest, wrong_print, wrong_sweep};
+use harness::{dearest_tests, sweep_tests, wrong_dearest, wrong_played, wrong_print, wrong_sweep};
 
 /// Terms of up to so many letters are run one by one beside sweep and dearest.
 const ONE_BY_ONE: usize = 5;
@@ -17,6 +17,7 @@ fn tests(processes: &Processes) -> i32 {
     known_finishing(&mut suite, "engine", processes);
     known_mixing(&mut suite, "engine", processes);
     known_checking(&mut suite, "engine", processes);
+    known_playing(&mut suite, "engine", processes);
     sweep_tests::known(&mut suite, "engine", processes);
     sweep_tests::made(&mut suite, "engine", processes, ONE_BY_ONE);
     dearest_tests::known(&mut suite, "engine", processes);
@@ -24,21 +25,24 @@ fn tests(processes: &Processes) -> i32 {
     predicted_finishing(&mut suite, "engine", processes);
     predicted_mixing(&mut suite, "engine", processes);
     predicted_checking(&mut suite, "engine", processes);
+    predicted_playing(&mut suite, "engine", processes);
     sweep_tests::predicted(&mut suite, "engine", processes);
     dearest_tests::predicted(&mut suite, "engine", processes);
-    for program in ["finish", "rule_mix", "check_file", "sweep", "dearest"] {
+    for program in ["finish", "rule_mix", "check_file", "sweep", "dearest", "play_book"] {
         slowly(&mut suite, "engine", program, processes);
         failing(&mut suite, "engine", program, processes);
     }
     suite.end()
 }
 
-/// The tests of rule_mix with this bug, or those of sweep or dearest.
+/// The tests of rule_mix with this bug, or those of play_book, sweep or dearest.
 fn tests_with_bug(programs: &Processes, name: &str) -> i32 {
     let mut suite = Suite::new();
     if let Some(bug) = wrong_print::bugs().iter().find(|bug| bug.name == name) {
         known_mixing(&mut suite, "engine", wrong_print::Wrong { programs, bug });
         predicted_mixing(&mut suite, "engine", wrong_print::Wrong { programs, bug });
+    } else if let Some(bug) = wrong_played::bugs().iter().find(|bug| bug.name == name) {
+        known_playing(&mut suite, "engine", wrong_played::Wrong { programs, bug });
     } else if let Some(bug) = &wrong_sweep::bugs().find(|bug| bug.name == name) {
         sweep_tests::known(&mut suite, "engine", wrong_sweep::Wrong { programs, bug });
         sweep_tests::predicted(&mut suite, "engine", wrong_sweep::Wrong { programs, bug });
@@ -56,6 +60,7 @@ fn asked() -> i32 {
         [folder] => tests(&Processes { folder: folder.into() }),
         [_, "--bugs"] => {
             wrong_print::bugs().iter().for_each(|bug| println!("{}", bug.name));
+            wrong_played::bugs().iter().for_each(|bug| println!("{}", bug.name));
             wrong_sweep::bugs().for_each(|bug| println!("{}", bug.name));
             wrong_dearest::bugs().for_each(|bug| println!("{}", bug.name));
             0

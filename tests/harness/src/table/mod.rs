@@ -9,6 +9,7 @@ pub mod dearest;
 pub mod finishing;
 pub mod joining;
 pub mod matching;
+pub mod playing;
 pub mod programs;
 pub mod reading;
 pub mod rows;

@@ -1,4 +1,4 @@
-//! Three of the five programs: standard input, and the one line printed or, by rule_mix, the fourteen.
+//! Three of the six programs: standard input, and the one line printed or, by rule_mix, the fourteen.
 
 use super::checking::{file, I, J, K};
 use super::counting::all_different;
