@@ -2,14 +2,15 @@
 //!
 //!   bench [PICTURE.svg]     every table, and a chart where a path is given
 //!   bench --dear [STEPS]    every run of finishing that was tried to find the dearest, with so much fuel or with all
-//!   bench --only TABLE      one table: growth, small, short, counting, joining, rows, catalogue, sweep, dearest,
-//!                           checking, stack or dear
+//!   bench --only TABLE      one table: growth, small, short, counting, joining, rows, catalogue, books, sweep,
+//!                           dearest, checking, stack or dear
 //!   bench --rows WORD       the rows of the first table whose names have this word
 //!
 //! Both are built for release. Each call starts from the term with zeros behind it and a zeroed work area. Built with
 //! CONTROLLER_DIR set, it times the archive in that folder.
 
 mod batched;
+mod books;
 mod catalogue;
 mod chart;
 mod checking;
@@ -20,6 +21,7 @@ mod dearest;
 mod entering;
 mod growth;
 mod joining;
+mod playing;
 mod reducing;
 mod repeating;
 mod rows;
@@ -35,8 +37,8 @@ mod timing;
 use reducing::Timed;
 use table::Table;
 
-/// The tables behind the first two, each with its name; two of them share one.
-const TABLES: [(&str, fn() -> Table); 12] = [
+/// The tables behind the first two, each with its name; of some, two share one.
+const TABLES: [(&str, fn() -> Table); 14] = [
     ("small", small::table),
     ("short", short_runs::table),
     ("counting", counting::table),
@@ -44,6 +46,8 @@ const TABLES: [(&str, fn() -> Table); 12] = [
     ("rows", rows::table),
     ("catalogue", catalogue::table),
     ("catalogue", catalogue::growth),
+    ("books", books::table),
+    ("books", books::growth),
     ("sweep", sweeping::table),
     ("dearest", dearest::table),
     ("checking", checking::table),
