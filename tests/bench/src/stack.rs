@@ -1,9 +1,11 @@
 //! How much stack the engine uses: a thread's stack is painted first, and looked through afterwards.
 
+use crate::books::{in_the_last, short, Lines};
 use crate::reducing::areas_of;
 use crate::table::Table;
 use crate::terms::AREA;
 use engine::Linked;
+use harness::books::{book_of, MOST_BYTES, MOST_FUEL, MOST_LINES, STORE};
 use harness::chains::{self, piece, row_at, Row};
 use harness::check_tests::{dear, doubling};
 use harness::deep::{deep_bells, deep_terms};
@@ -13,7 +15,7 @@ use harness::memory::Pages;
 use harness::runs::{all_pending, in_pairs, inert, nested_uses, swings};
 use harness::stores::{alike, empty, store_of, MOST_RESULTS};
 use harness::subject::Controller;
-use harness::terms::{joined, twice_nested};
+use harness::terms::{index, joined, repeated, twice_nested};
 use second::comparing::Lent;
 use second::counting::COUNTS_SIZE;
 use second::rows::MOST_ROWS;
@@ -155,6 +157,48 @@ fn entering_into(mut store: Vec<u8>, text: Vec<u8>) -> String {
     })
 }
 
+/// A term as a line of a book, and a second line that uses it.
+fn playing(lent: Lending) -> String {
+    let lines = [(b"a".to_vec(), lent.text), (b"b".to_vec(), b"(a)".to_vec())];
+    playing_of(book_of(&lines), lent.area, lent.fuel)
+}
+
+fn playing_of(book: Vec<u8>, area: usize, fuel: u64) -> String {
+    let (mut area, mut work, mut store) = (vec![0; area], vec![0; area], vec![0; STORE]);
+    used(move || {
+        Linked.book(&book, &mut area, &mut work, &mut store, fuel);
+    })
+}
+
+fn book_row(name: &str, lines: &Lines) -> Vec<String> {
+    let book = book_of(lines);
+    assert!(book.len() <= MOST_BYTES, "{name}: a book within its limits");
+    let words = [format!("book: {name}"), book.len().to_string()];
+    let none = std::iter::repeat_n("-".to_string(), 8);
+    words.into_iter().chain(none).chain([playing_of(book, AREA, MOST_FUEL)]).collect()
+}
+
+/// Books of many lines and uses, of the longest line, of deep uses, of a line that runs, and one that is refused.
+fn book_rows() -> Vec<Vec<String>> {
+    let line = |name: &str, term: Vec<u8>| (name.into(), term);
+    let after = |first: &str, term: Vec<u8>| vec![line("a", first.into()), line("b", term)];
+    vec![
+        book_row("256 lines, 8,000 uses", &in_the_last(short, MOST_LINES, 8_000)),
+        book_row("R^65532 J, no room", &vec![line("a", index(65_532))]),
+        book_row(
+            "H to the left, uses in it",
+            &after("J", joined(&[&repeated("H", 8_191), &repeated("(a)", 8_192)])),
+        ),
+        book_row(
+            ". to the left, uses in it",
+            &after("I", joined(&[&repeated(".", 8_191), &repeated("(a)", 8_192)])),
+        ),
+        book_row(". to the right, uses in it", &after("I", joined(&[&repeated(".(a)", 8_191), b"(a)"]))),
+        book_row("a closure used twice, 14 times", &after("I", twice_nested(14))),
+        book_row("27 at line 2", &after("I", joined(&[&repeated("R", 60_000), b"(c)"]))),
+    ]
+}
+
 /// A piece of as many rows as there may be, which is longer than a term area.
 fn piece_row(name: &str, rows: Vec<Row>) -> Vec<String> {
     let (text, bells) = (piece(&rows), rows[0].len());
@@ -172,6 +216,7 @@ fn piece_row(name: &str, rows: Vec<Row>) -> Vec<String> {
         none(),
         ringing_of(text, bells),
         entering,
+        none(),
     ]
 }
 
@@ -181,14 +226,14 @@ fn store_rows(name: &str, results: &[Vec<u8>]) -> Vec<Vec<String>> {
     let row = |entry: &str, store: Vec<u8>| {
         let words = [format!("store: {name}, {entry}"), last.len().to_string()];
         let none = std::iter::repeat_n("-".to_string(), 7);
-        words.into_iter().chain(none).chain([entering_into(store, last.clone())]).collect()
+        words.into_iter().chain(none).chain([entering_into(store, last.clone()), "-".to_string()]).collect()
     };
     vec![row("new", store_of(others)), row("known", store_of(results))]
 }
 
 fn term_row(lent: Lending) -> Vec<String> {
     let (name, letters) = (lent.name.clone(), lent.text.len().to_string());
-    let used = [reading, stepping, finishing, counting, comparing, joining, ringing, entering]
+    let used = [reading, stepping, finishing, counting, comparing, joining, ringing, entering, playing]
         .map(|operation| operation(lent.clone()));
     [name, letters].into_iter().chain(used).collect()
 }
@@ -226,7 +271,7 @@ fn file_row(name: &str, file: Vec<u8>) -> Vec<String> {
         Linked.match_claims(&other, &other);
     });
     let none = || "-".to_string();
-    vec![name.to_string(), bytes, none(), none(), checking, none(), matching, none(), none(), none()]
+    vec![name.to_string(), bytes, none(), none(), checking, none(), matching, none(), none(), none(), none()]
 }
 
 pub fn table() -> Table {
@@ -239,11 +284,12 @@ pub fn table() -> Table {
     ));
     rows.push(piece_row("piece: 1,000 rows, all equal", vec![row_at(12, 0); 1_000]));
     rows.extend(store_rows("256 of 254, one fingerprint", &alike(MOST_RESULTS, 254, false)));
+    rows.extend(book_rows());
     rows.extend(deep_bells().into_iter().map(deep).chain(long_runs()).map(term_row));
     Table::new(
         "Bytes of stack that a call of the engine uses",
         &[
-            "term or file",
+            "term, file or book",
             "bytes",
             "reading",
             "stepping",
@@ -253,6 +299,7 @@ pub fn table() -> Table {
             "joining",
             "rows",
             "entering",
+            "a book",
         ],
         rows,
     )
