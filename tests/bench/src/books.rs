@@ -1,7 +1,7 @@
-//! Books: microseconds of a call beside one that plays them the way a Rust program does, and how both grow with the
-//! lines and the uses of a book.
+//! Books: microseconds of a call beside one that plays them the way a Rust program does, and how the times grow with
+//! the lines and the uses of a book.
 
-use crate::playing::plainly;
+use crate::playing::{plainly, Mapped, Searched};
 use crate::table::{number, Table};
 use crate::terms::AREA;
 use crate::timing::shortest;
@@ -108,17 +108,19 @@ struct Case {
     refusal: Option<u64>,
 }
 
-/// The times of one call in nanoseconds.
+/// The times of one call in nanoseconds: the engine, Rust with a hash map, and Rust that searches names in order.
 #[derive(Clone, Copy)]
 struct Times {
     engine: f64,
     rust: f64,
+    searching: f64,
 }
 
 impl Times {
-    /// In microseconds, and the engine's divided by Rust's.
-    fn cells(self) -> [String; 3] {
-        [self.engine / 1e3, self.rust / 1e3, self.engine / self.rust].map(number)
+    /// In microseconds, and the engine's divided by those of Rust.
+    fn cells(self) -> [String; 5] {
+        let Times { engine, rust, searching } = self;
+        [engine / 1e3, rust / 1e3, engine / rust, searching / 1e3, engine / searching].map(number)
     }
 }
 
@@ -129,7 +131,12 @@ const DAMAGES: usize = 50;
 
 fn rust(book: &[u8], lent: &mut [Vec<u8>; 3], fuel: u64) -> u64 {
     let [area, work, store] = lent;
-    of_book(plainly(book, area, work, store, fuel))
+    of_book(plainly::<Mapped>(book, area, work, store, fuel))
+}
+
+fn searching(book: &[u8], lent: &mut [Vec<u8>; 3], fuel: u64) -> u64 {
+    let [area, work, store] = lent;
+    of_book(plainly::<Searched>(book, area, work, store, fuel))
 }
 
 fn engine(book: &[u8], lent: &mut [Vec<u8>; 3], fuel: u64) -> u64 {
@@ -137,12 +144,16 @@ fn engine(book: &[u8], lent: &mut [Vec<u8>; 3], fuel: u64) -> u64 {
     Linked.book(book, area, work, store, fuel)
 }
 
-/// The one reply of both, which leave the same bytes.
+/// The one reply of all three, which leave the same bytes.
 fn replies_alike(name: &str, book: &[u8], sizes: [usize; 3], fuel: u64) -> u64 {
-    let mut lent = [sizes.map(|size| vec![b'#'; size]), sizes.map(|size| vec![b'#'; size])];
-    let reply = engine(book, &mut lent[0], fuel);
-    assert_eq!(in_words(rust(book, &mut lent[1], fuel)), in_words(reply), "{name}: one reply");
-    assert!(lent[0] == lent[1], "{name}: both leave the same bytes");
+    let fresh = || sizes.map(|size| vec![b'#'; size]);
+    let mut left = fresh();
+    let reply = engine(book, &mut left, fuel);
+    for play in [rust, searching] {
+        let mut lent = fresh();
+        assert_eq!(in_words(play(book, &mut lent, fuel)), in_words(reply), "{name}: one reply");
+        assert!(lent == left, "{name}: all leave the same bytes");
+    }
     reply
 }
 
@@ -175,15 +186,16 @@ impl Case {
     /// The engine and Rust are timed in turn.
     fn times(&self) -> Times {
         let reply = self.leave_the_same();
-        let mut times = Times { engine: f64::INFINITY, rust: f64::INFINITY };
+        let mut times = Times { engine: f64::INFINITY, rust: f64::INFINITY, searching: f64::INFINITY };
         for _ in 0..TURNS {
             times.engine = times.engine.min(self.time(reply, engine));
             times.rust = times.rust.min(self.time(reply, rust));
+            times.searching = times.searching.min(self.time(reply, searching));
         }
         times
     }
 
-    /// Both reply as expected and leave the same bytes; also with less room and fuel, and with a byte damaged.
+    /// All reply as expected and leave the same bytes; also with less room and fuel, and with a byte damaged.
     fn leave_the_same(&self) -> u64 {
         let [area, work, store] = self.sizes();
         let reply = replies_alike(&self.name, &self.book, [area, work, store + 5], MOST_FUEL);
@@ -339,9 +351,21 @@ fn reducing() -> Vec<Case> {
 pub fn table() -> Table {
     let cases = [at_the_limits(), found_late(), lent(), reducing()].into_iter().flatten();
     Table::new(
-        "Microseconds of one book beside Rust that keeps names in a hash map and results in a vector, and finishes a \
-         line with a full stop by the fast second reducer",
-        &["book", "lines", "uses", "bytes", "area", "work", "engine", "Rust", "engine/Rust"],
+        "Microseconds of one book beside Rust that keeps names in a hash map or searches them in order, keeps results in \
+         a vector, and finishes a line with a full stop by the fast second reducer",
+        &[
+            "book",
+            "lines",
+            "uses",
+            "bytes",
+            "area",
+            "work",
+            "engine",
+            "Rust",
+            "engine/Rust",
+            "in order",
+            "engine/in order",
+        ],
         cases.map(|case| case.row()).collect(),
     )
 }
@@ -361,7 +385,7 @@ fn growing(what: &str, (shape, make): Shape, sizes: [(usize, usize); 3]) -> Vec<
         let grown =
             |time: fn(Times) -> f64| before.map_or("-".to_string(), |before| number(time(now) / time(before)));
         let words = [case.name.clone(), lines.to_string(), case.uses.to_string(), case.book.len().to_string()];
-        let growth = [grown(|times| times.engine), grown(|times| times.rust)];
+        let growth = [grown(|times| times.engine), grown(|times| times.rust), grown(|times| times.searching)];
         words.into_iter().chain(now.cells()).chain(growth).collect()
     };
     sizes.into_iter().map(row).collect()
@@ -374,7 +398,20 @@ pub fn growth() -> Table {
     Table::new(
         "Microseconds of one book as books grow, with names of one or two letters; growth is from the row before, which \
          has half as many lines or uses, or both",
-        &["book", "lines", "uses", "bytes", "engine", "Rust", "engine/Rust", "growth: engine", "Rust"],
+        &[
+            "book",
+            "lines",
+            "uses",
+            "bytes",
+            "engine",
+            "Rust",
+            "engine/Rust",
+            "in order",
+            "engine/in order",
+            "growth: engine",
+            "Rust",
+            "in order",
+        ],
         rows.flatten().collect(),
     )
 }

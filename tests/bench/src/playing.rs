@@ -1,5 +1,6 @@
 //! A book as a Rust program would play it: a map from names to lines, the parts of each line in a vector, and results one
-//! behind the other in another. Each name is looked up once; a line without a full stop is its own result.
+//! behind the other in another. Each name is looked up once; a line without a full stop is its own result. In the place
+//! of the map a vector may stand that is searched from its start, as the engine searches.
 
 use second::book::{Played, LONGEST_NAME, MAX_BOOK, MAX_LINES, STORE_SIZE};
 use second::finishing::{run, Outcome, MAX_FUEL};
@@ -15,7 +16,42 @@ enum Part<'a> {
 }
 
 type Line<'a> = Vec<Part<'a>>;
-type Names<'a> = HashMap<&'a [u8], usize>;
+
+/// The names of the lines so far.
+pub trait Names<'a>: Default {
+    fn line_of(&self, name: &[u8]) -> Option<usize>;
+    fn give(&mut self, name: &'a [u8], line: usize);
+}
+
+pub type Mapped<'a> = HashMap<&'a [u8], usize>;
+
+impl<'a> Names<'a> for Mapped<'a> {
+    fn line_of(&self, name: &[u8]) -> Option<usize> {
+        self.get(name).copied()
+    }
+
+    fn give(&mut self, name: &'a [u8], line: usize) {
+        self.insert(name, line);
+    }
+}
+
+/// Each name as a number, in the order of the lines.
+pub type Searched = Vec<u64>;
+
+fn as_number(name: &[u8]) -> u64 {
+    name.iter().fold(0, |number, &letter| number << 8 | u64::from(letter))
+}
+
+impl Names<'_> for Searched {
+    fn line_of(&self, name: &[u8]) -> Option<usize> {
+        let wanted = as_number(name);
+        self.iter().position(|&number| number == wanted)
+    }
+
+    fn give(&mut self, name: &[u8], _line: usize) {
+        self.push(as_number(name));
+    }
+}
 
 fn is_name(bytes: &[u8]) -> bool {
     (1..=LONGEST_NAME).contains(&bytes.len()) && bytes.iter().all(u8::is_ascii_lowercase)
@@ -28,7 +64,7 @@ fn closed_name(bytes: &[u8]) -> Option<&[u8]> {
 }
 
 /// The parts of one whole term with uses.
-fn parts_of<'a>(piece: &'a [u8], names: &Names) -> Option<Line<'a>> {
+fn parts_of<'a>(piece: &'a [u8], names: &impl Names<'a>) -> Option<Line<'a>> {
     let (mut parts, mut owed, mut place, mut start) = (vec![], 1usize, 0, 0);
     while place < piece.len() {
         if owed == 0 {
@@ -37,7 +73,7 @@ fn parts_of<'a>(piece: &'a [u8], names: &Names) -> Option<Line<'a>> {
         match piece[place] {
             b'(' => {
                 let name = closed_name(&piece[place + 1..])?;
-                parts.extend([Part::Letters(&piece[start..place]), Part::Use(names.get(name).copied())]);
+                parts.extend([Part::Letters(&piece[start..place]), Part::Use(names.line_of(name))]);
                 place += name.len() + 1;
                 start = place + 1;
                 owed -= 1;
@@ -53,15 +89,15 @@ fn parts_of<'a>(piece: &'a [u8], names: &Names) -> Option<Line<'a>> {
     (owed == 0).then_some(parts)
 }
 
-/// The name and the parts of a line behind these, or the number of its first fault.
-fn read_line<'a>(bytes: &'a [u8], names: &Names) -> Result<(&'a [u8], Line<'a>), u8> {
+/// The name and the parts of a line behind so many, or the number of its first fault.
+fn read_line<'a>(bytes: &'a [u8], count: usize, names: &impl Names<'a>) -> Result<(&'a [u8], Line<'a>), u8> {
     let tab = bytes.iter().position(|&byte| byte == b'\t').ok_or(BAD_BOOK_LINE)?;
     let (name, piece) = (&bytes[..tab], &bytes[tab + 1..]);
-    if names.len() == MAX_LINES || !is_name(name) {
+    if count == MAX_LINES || !is_name(name) {
         return Err(BAD_BOOK_LINE);
     }
     let parts = parts_of(piece, names).ok_or(BAD_BOOK_LINE)?;
-    if names.contains_key(name) {
+    if names.line_of(name).is_some() {
         return Err(NAME_TAKEN);
     }
     match parts.iter().any(|part| matches!(part, Part::Use(None))) {
@@ -70,7 +106,7 @@ fn read_line<'a>(bytes: &'a [u8], names: &Names) -> Result<(&'a [u8], Line<'a>),
     }
 }
 
-fn read_book(book: &[u8]) -> Result<Vec<Line<'_>>, Refusal> {
+fn read_book<'a, N: Names<'a>>(book: &'a [u8]) -> Result<Vec<Line<'a>>, Refusal> {
     if book.len() > MAX_BOOK {
         return Err(without_place(FILE_TOO_LARGE));
     }
@@ -78,10 +114,10 @@ fn read_book(book: &[u8]) -> Result<Vec<Line<'_>>, Refusal> {
     if last != b'\n' {
         return Err(without_place(NO_LAST_LINE_FEED));
     }
-    let (mut names, mut lines) = (Names::new(), vec![]);
+    let (mut names, mut lines) = (N::default(), vec![]);
     for bytes in all.split(|&byte| byte == b'\n') {
-        let (name, line) = read_line(bytes, &names).map_err(|number| at(number, lines.len() + 1))?;
-        names.insert(name, lines.len());
+        let (name, line) = read_line(bytes, lines.len(), &names).map_err(|number| at(number, lines.len() + 1))?;
+        names.give(name, lines.len());
         lines.push(line);
     }
     Ok(lines)
@@ -144,8 +180,8 @@ fn play_lines(lines: &[Line], area: usize, fuel: u64) -> Result<Vec<u8>, (Outcom
     Ok(last)
 }
 
-pub fn plainly(
-    book: &[u8],
+pub fn plainly<'a, N: Names<'a>>(
+    book: &'a [u8],
     area: &mut [u8],
     work: &mut [u8],
     lent: &mut [u8],
@@ -160,7 +196,7 @@ pub fn plainly(
     if fuel > MAX_FUEL {
         return Err(without_place(FUEL_TOO_LARGE));
     }
-    let lines = read_book(book)?;
+    let lines = read_book::<N>(book)?;
     let played = play_lines(&lines, area.len(), fuel);
     work.fill(0);
     lent[..STORE_SIZE].fill(0);
