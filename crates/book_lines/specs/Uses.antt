@@ -1,5 +1,5 @@
 -- The names that bytes use, from left to right, whatever the bytes are (REQUIREMENTS, Books); of a piece's text they are the piece's own,
--- proofs/Uses.antt.
+-- proofs/Faults.antt.
 use Prim.Native.Nat.{ℕ}
 use mathlib.Core.Bool.{Bool, true, cond, _&&_}
 use mathlib.Core.List.{List, [], _∷_, _++_}
