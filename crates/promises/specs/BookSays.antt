@@ -26,7 +26,7 @@ pub record Yields (book : List ℕ) (t v : Term) : Type 0 where
   pub found : Finds t v
 
 pub record BookSays : Type 0 where
-  -- what a composer gets: where every line finishes, the term in the area is the only normal form of the last line written out in full
+  -- what a composer gets: if no line stops, the area holds the one result of the last line, taken with all its uses written out
   pub result :
       (book area work store area′ work′ store′ : List ℕ) (fuel line n : ℕ) →
       playingOf book area work store fuel ≡ After.after (Reply.answered (Played.played Outcome.finished line n)) area′ work′ store′ →
