@@ -7,7 +7,7 @@ ghost use Rattle.admission.specs.Answer.{reply_of};
 use reading::Reading;
 
 // Whether a call is refused; specs/Answer.antt gives the number and the place of each case.
-#[derive(Drop)]
+#[derive(Clone, Copy)]
 pub enum Admission {
     // The term area is over 16,384 bytes.
     AreaTooLong,

@@ -10,7 +10,7 @@ use admission::Admission;
 use finish_line::Asked;
 
 // What was printed: how long the line is, whether there was a run, and how often it used each rule, 0 where there was none.
-#[derive(Drop)]
+#[derive(Clone, Copy)]
 pub struct Answered {
     pub size: usize,
     pub ran: bool,

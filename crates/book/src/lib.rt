@@ -18,7 +18,7 @@ use book_reading::BookReading;
 use finishing::Outcome;
 
 // What playing answers; specs/Answer.antt gives the number and the values of each case.
-#[derive(Drop)]
+#[derive(Clone, Copy)]
 pub enum Playing {
     // The term area is over 16,384 bytes.
     AreaTooLong,
@@ -63,7 +63,7 @@ pub fn place(answer: Playing) -> usize
 }
 
 // What all lines came to: the outcome and the number of the last one played, and the size of its result, 0 where there is none.
-#[derive(Drop)]
+#[derive(Clone, Copy)]
 struct LinesEnd {
     outcome: Outcome,
     line: usize,

@@ -10,7 +10,7 @@ ghost use Rattle.book_lines.specs.Number.{number_of};
 use book_names::{find_from, is_in, key};
 
 // What is wrong with a line, if anything; specs/Number.antt gives the number of each case.
-#[derive(Drop)]
+#[derive(Clone, Copy)]
 pub enum Fault {
     // Nothing is wrong.
     Sound,

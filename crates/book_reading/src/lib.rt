@@ -10,7 +10,7 @@ use book_lines::{Fault, check_line};
 use book_names::find_from;
 
 // What is read of a book; specs/Answer.antt gives the number and the value of each case.
-#[derive(Drop)]
+#[derive(Clone, Copy)]
 pub enum BookReading {
     // The book is over 65,536 bytes.
     TooLong,

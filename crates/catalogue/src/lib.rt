@@ -13,7 +13,7 @@ use reading::Reading;
 use stores::Kept;
 
 // What an entry answers; specs/Answer.antt gives the number and the value of each case.
-#[derive(Drop)]
+#[derive(Clone, Copy)]
 pub enum Entering {
     // The store has too few bytes.
     StoreTooShort,

@@ -13,7 +13,7 @@ use fields::texts::Span;
 use fields::{Judged, six_at};
 
 // What checking answers; specs/Answer.antt gives the number and the value of each case.
-#[derive(Drop)]
+#[derive(Clone, Copy)]
 pub enum Checking {
     // The file is over 65,536 bytes.
     FileTooLong,
@@ -58,7 +58,7 @@ pub fn place(answer: Checking) -> usize
 }
 
 // What checking answers of a file, and where the context, the term and the type of its last line stand; empty places beside a refusal.
-#[derive(Drop)]
+#[derive(Clone, Copy)]
 pub struct Checked {
     pub answer: Checking,
     pub claim: Judged,

@@ -11,7 +11,7 @@ use calculus::letters;
 use cells::{first_in, letter_in, node, second_in};
 
 // What a rule has given: its number, the new top, and the cell of the result.
-#[derive(Drop)]
+#[derive(Clone, Copy)]
 pub struct Contracted {
     pub rule: u8,
     pub top: usize,

@@ -12,7 +12,7 @@ use finishing::Run;
 pub const COUNTS_SIZE: usize = 52;
 
 // Whether the call is refused; specs/Answer.antt gives the number and the place of each case.
-#[derive(Drop)]
+#[derive(Clone, Copy)]
 pub enum Counted {
     // There are fewer bytes for the counts than they take.
     CountsTooShort,
@@ -21,7 +21,7 @@ pub enum Counted {
 }
 
 // What finishing with counts answers. Beside a refusal the record is spent, and all its numbers are 0.
-#[derive(Drop)]
+#[derive(Clone, Copy)]
 pub struct Counting {
     pub counted: Counted,
     pub run: Run,

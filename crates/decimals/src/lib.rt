@@ -4,7 +4,7 @@ ghost use Rattle.slices.specs.Numeral.{is_digit, digit0, decimal_of};
 ghost use Rattle.decimals.specs.Parsed.{fed, first, further, more, parsed_of, up_to};
 
 // What the bytes so far are.
-#[derive(Drop)]
+#[derive(Clone, Copy)]
 pub enum Decimal {
     // No byte yet.
     Empty,
@@ -17,7 +17,7 @@ pub enum Decimal {
 }
 
 // What bytes are, read as a decimal number.
-#[derive(Drop)]
+#[derive(Clone, Copy)]
 pub enum Parsed {
     Number(u64),
     NoNumber,

@@ -13,7 +13,7 @@ use premises::{Cited, cite, premises_fit, start_or};
 use rules::{Rule, is_known, premise_count, rule_of};
 
 // What is wrong with a line; specs/Number.antt gives the number of each case.
-#[derive(Drop)]
+#[derive(Clone, Copy)]
 pub enum Fault {
     // It has not six fields.
     NotSixFields,

@@ -12,7 +12,7 @@ use cells::{ARGUMENT, PENDING, first_in, letter_in, link, node, second_in};
 
 // Where the machine is: the first free cell, the part in focus, the list of what stands around it and behind it, how many letters stand in
 // the area already, and whether a part is left at all.
-#[derive(Drop)]
+#[derive(Clone, Copy)]
 pub struct Place {
     pub top: usize,
     pub cur: usize,

@@ -7,7 +7,7 @@ ghost use Rattle.fields.specs.Fields.{stop_at, behind_in, field_at, judged_at, s
 use texts::Span;
 
 // The context, the term and the type of a line.
-#[derive(Drop)]
+#[derive(Clone, Copy)]
 pub struct Judged {
     pub context: Span,
     pub term: Span,
@@ -15,7 +15,7 @@ pub struct Judged {
 }
 
 // The six fields of a line.
-#[derive(Drop)]
+#[derive(Clone, Copy)]
 pub struct SixFields {
     pub own: Judged,
     pub rule: Span,

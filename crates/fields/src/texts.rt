@@ -4,7 +4,7 @@ ghost use Rattle.slices.specs.Same.{same};
 ghost use Rattle.fields.specs.Texts.{text_at};
 
 // A text of the file: from index `from` up to, not including, `to`.
-#[derive(Drop)]
+#[derive(Clone, Copy)]
 pub struct Span {
     pub from: usize,
     pub to: usize,

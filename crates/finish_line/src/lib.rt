@@ -9,7 +9,7 @@ use line_states::Line;
 const AREA_LIMIT: u64 = calculus::AREA_LIMIT as u64;
 
 // What the whole input asks for.
-#[derive(Drop)]
+#[derive(Clone, Copy)]
 pub enum Asked {
     // Not one line of three fields, a number malformed, or an area size out of range.
     OtherShape,

@@ -15,7 +15,7 @@ use admission::Admission;
 use stepping::{Batch, Stepping};
 
 // How a run ends.
-#[derive(Drop)]
+#[derive(Clone, Copy)]
 pub enum Outcome {
     Finished,
     Spent,
@@ -23,7 +23,7 @@ pub enum Outcome {
 }
 
 // The record of a run: its outcome, the count of steps made, how often each rule was used, rule 1 first, and the size of the term reached.
-#[derive(Drop)]
+#[derive(Clone, Copy)]
 pub struct Run {
     pub outcome: Outcome,
     pub count: u64,
@@ -32,7 +32,7 @@ pub struct Run {
 }
 
 // What finishing answers. Beside a refusal the record is spent, and all its numbers are 0.
-#[derive(Drop)]
+#[derive(Clone, Copy)]
 pub struct Finishing {
     pub admission: Admission,
     pub run: Run,

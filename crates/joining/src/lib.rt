@@ -14,7 +14,7 @@ use reading::Reading;
 const FRAME: usize = 12;
 
 // What joining answers; specs/Answer.antt gives the number and the value of each case.
-#[derive(Drop)]
+#[derive(Clone, Copy)]
 pub enum Joining {
     // What reading refused of the first term, else of the second, unaltered.
     Unread(Reading),

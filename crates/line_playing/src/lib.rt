@@ -8,7 +8,7 @@ use finishing::Outcome;
 use replacing::Replacing;
 
 // What one line came to.
-#[derive(Drop)]
+#[derive(Clone, Copy)]
 pub struct LineEnd {
     // How it ended.
     pub outcome: Outcome,

@@ -11,7 +11,7 @@ pub const LENGTH_CAP: usize = calculus::AREA_LIMIT + 1;
 
 // The line so far, by the field that the next byte stands in. Numbers and length are kept up to their caps; the third field is followed
 // as a decimal number too, and its bytes are in a buffer that the caller lends.
-#[derive(Drop)]
+#[derive(Clone, Copy)]
 pub enum Line {
     InFirst(Decimal),
     InSecond {

@@ -13,7 +13,7 @@ use turning::{State, turn};
 const CELLS_LEAST: usize = 256;
 
 // How many steps were made, the size of the term reached, and whether the machine stopped with a part of it before it.
-#[derive(Drop)]
+#[derive(Clone, Copy)]
 pub struct Made {
     pub steps: u64,
     pub size: usize,

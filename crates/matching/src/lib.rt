@@ -12,7 +12,7 @@ use fields::Judged;
 use fields::texts::Span;
 
 // What matching answers; specs/Answer.antt gives the number and the word of each case.
-#[derive(Drop)]
+#[derive(Clone, Copy)]
 pub enum Matching {
     // What checking refuses of the first file, or else of the second, unaltered.
     Refused(Checking),

@@ -13,7 +13,7 @@ use fields::texts::Span;
 const DASH: u8 = b'-';
 
 // What a premise field names.
-#[derive(Drop)]
+#[derive(Clone, Copy)]
 pub enum Cited {
     // `-`.
     Dash,

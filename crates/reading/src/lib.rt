@@ -10,7 +10,7 @@ ghost use Rattle.reading.specs.Stop.{has_stop};
 use calculus::letters;
 
 // What reading answers; specs/Answer.antt gives the number and the value of each case.
-#[derive(Drop)]
+#[derive(Clone, Copy)]
 pub enum Reading {
     // The bytes are a term's text, of that size.
     Whole(usize),

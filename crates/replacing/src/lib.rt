@@ -6,7 +6,7 @@ ghost use Rattle.replacing.specs.Leaves.{Leaves};
 use book_names::find_from;
 
 // Whether the text fits the area.
-#[derive(Drop)]
+#[derive(Clone, Copy)]
 pub enum Replacing {
     // It does, and has so many bytes.
     Fits(usize),

@@ -10,14 +10,14 @@ use reading::is_bell;
 use slices::byte_at;
 
 // The bytes from index `from` up to, not including, `to`.
-#[derive(Drop)]
+#[derive(Clone, Copy)]
 pub struct Part {
     pub from: usize,
     pub to: usize,
 }
 
 // What a rule makes of a text: the bytes before `keep`, a letter, two parts of it, a part of it once more, and the bytes from `rest` on.
-#[derive(Drop)]
+#[derive(Clone, Copy)]
 pub struct Rewrite {
     // The rule's number, `NO_RULE` for none.
     pub rule: u8,

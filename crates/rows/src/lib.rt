@@ -22,7 +22,7 @@ const FEWEST: usize = 2;
 const ROW_LIMIT: usize = 1000;
 
 // What reading a piece as rows answers; specs/Answer.antt gives the number and the values of each case.
-#[derive(Drop)]
+#[derive(Clone, Copy)]
 pub enum Ringing {
     // What reading refused, unaltered.
     Unread(Reading),

@@ -8,7 +8,7 @@ use calculus::{letters, names};
 use fields::texts::{Span, bytes_of, is_join};
 
 // The rules, by the letters that name them.
-#[derive(Drop)]
+#[derive(Clone, Copy)]
 pub enum Rule {
     J,
     R,

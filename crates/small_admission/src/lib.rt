@@ -13,7 +13,7 @@ const LARGEST_SIZE: u64 = small_texts::LARGEST_SIZE as u64;
 const AREA_LIMIT: u64 = calculus::AREA_LIMIT as u64;
 
 // Whether a call is refused; specs/Answer.antt gives the number of each case.
-#[derive(Drop)]
+#[derive(Clone, Copy)]
 pub enum Admission {
     // The size is not from 1 to 7.
     NotSmall,

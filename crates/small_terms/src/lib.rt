@@ -13,7 +13,7 @@ use finishing::{Outcome, Run};
 use small_admission::Admission;
 
 // What the runs came to: how many finished, were spent and had no room, and the steps of the finished ones in all.
-#[derive(Drop)]
+#[derive(Clone, Copy)]
 pub struct Tally {
     pub finished: u64,
     pub spent: u64,
@@ -22,21 +22,21 @@ pub struct Tally {
 }
 
 // The dearest run so far: its term's index, and how many steps make a later run dearer, 0 where none has finished.
-#[derive(Drop)]
+#[derive(Clone, Copy)]
 struct Lead {
     index: u64,
     least: u64,
 }
 
 // What the runs came to, and the dearest of them.
-#[derive(Drop)]
+#[derive(Clone, Copy)]
 struct Runs {
     tally: Tally,
     lead: Lead,
 }
 
 // What the sweep answers.
-#[derive(Drop)]
+#[derive(Clone, Copy)]
 pub enum Sweeping {
     // Why it is refused; never `Admitted`.
     Refused(Admission),
@@ -44,7 +44,7 @@ pub enum Sweeping {
 }
 
 // What the search for the dearest term answers: its text, zeros behind it, and the steps of its run. Beside a refusal all of them are 0.
-#[derive(Drop)]
+#[derive(Clone, Copy)]
 pub struct Finding {
     pub admission: Admission,
     pub text: [u8; small_texts::LARGEST_SIZE],

@@ -56,7 +56,7 @@ fn letter(i: usize) -> u8
 }
 
 // A letter of a text, and the index of what stands behind it among all that can.
-#[derive(Drop)]
+#[derive(Clone, Copy)]
 struct Choice {
     letter: u8,
     index: u64,

@@ -18,7 +18,7 @@ use rewriting::{NO_RULE, growth};
 use writing::write_back;
 
 // What stepping answers; specs/Answer.antt gives the number and the values of each case.
-#[derive(Drop)]
+#[derive(Clone, Copy)]
 pub enum Stepping {
     // The term area is over 16,384 bytes.
     AreaTooLong,
@@ -100,7 +100,7 @@ pub fn step(area: &mut [u8], len: usize, work: &mut [u8]) -> Stepping
 
 // What several steps at once have come to: how many were made, how often each rule was used, rule 1 first, and the size of the term
 // reached.
-#[derive(Drop)]
+#[derive(Clone, Copy)]
 pub struct Batch {
     pub made: u64,
     pub by_rule: [u32; calculus::RULES],

@@ -13,7 +13,7 @@ use slices::{cut, is_zeros};
 use words::word_at;
 
 // What a store keeps; specs/Kept.antt says what each case stands for.
-#[derive(Drop)]
+#[derive(Clone, Copy)]
 pub enum Kept {
     // A catalogue, of so many results with so many letters.
     Results(usize, usize),

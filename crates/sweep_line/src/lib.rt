@@ -6,7 +6,7 @@ use decimals::Parsed;
 use line_states::Line;
 
 // What the whole input asks for.
-#[derive(Drop)]
+#[derive(Clone, Copy)]
 pub enum Asked {
     // Not one line of three numbers.
     OtherShape,

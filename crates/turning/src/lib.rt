@@ -17,7 +17,7 @@ use emitting::{Place, emit};
 use tallies::count_use;
 
 // The machine's place, the size of the term reached, how many steps are left, and whether there is another turn.
-#[derive(Drop)]
+#[derive(Clone, Copy)]
 pub struct State {
     pub place: Place,
     pub size: usize,
@@ -26,7 +26,7 @@ pub struct State {
 }
 
 // The application in focus: the cells of its function and of its argument, and the list of what stands around it and behind it.
-#[derive(Drop)]
+#[derive(Clone, Copy)]
 pub struct Focus {
     pub function: usize,
     pub argument: usize,

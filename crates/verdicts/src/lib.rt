@@ -10,7 +10,7 @@ use admission::Admission;
 use finishing::{Outcome, Run};
 
 // What comparing answers; specs/Answer.antt gives the number and the word of each case.
-#[derive(Drop)]
+#[derive(Clone, Copy)]
 pub enum Comparing {
     // What finishing refuses of the first term, or else of the second, unaltered.
     Refused(Admission),
