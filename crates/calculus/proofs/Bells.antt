@@ -63,11 +63,13 @@ each-bell test e k = each k e
     each : {bs : List ℕ} (r : Row bs) → all test bs ≡ true → test (byte_in r) ≡ true
     each {bs = b ∷ bs} Row.first e = (and_both (test b) (all test bs) e).0
     each {bs = b ∷ bs} (Row.later r) e = each r (and_both (test b) (all test bs) e).1
+    each {bs = []} r e = elim r [ ]
 
 -- a byte that is among others stands there
 pub listed-stands : {b : ℕ} {bs : List ℕ} → Memᴰ b bs → stands b bs ≡ true
 listed-stands {b} {bs = c ∷ bs} (Memᴰ.head e) = ap (λ (t : Bool). t || stands b bs) (eq-eqb b c e)
 listed-stands {b} {bs = c ∷ bs} (Memᴰ.tail m) = ap (λ (t : Bool). eqb b c || t) (listed-stands m) ∙ or-true (eqb b c)
+listed-stands {bs = []} x = elim x [ ]
 
 -- a byte that stands in the table is that of a row
 stands-row : (b : ℕ) (bs : List ℕ) → stands b bs ≡ true → (r : Row bs) × (b ≡ byte_in r)

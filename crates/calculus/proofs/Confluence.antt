@@ -36,6 +36,13 @@ par_refl (Term.bell k) = par_bell
 -- A rule alone is such a becoming: its left side is an application.
 pub rule_par : {n : ℕ} {t u : Term} → Rule n t u → Par t u
 rule_par {t = Term.app t u} r = fire (par_refl t) (par_refl u) r
+rule_par {t = Term.J} r = elim r [ ]
+rule_par {t = Term.R t} r = elim r [ ]
+rule_par {t = Term.H _ t} r = elim r [ ]
+rule_par {t = Term.A s t} r = elim r [ ]
+rule_par {t = Term.I} r = elim r [ ]
+rule_par {t = Term.B u s} r = elim r [ ]
+rule_par {t = Term.bell k} r = elim r [ ]
 
 -- One change is such a becoming.
 pub change_par : {n : ℕ} {p : Place} {t u : Term} → Change n p t u → Par t u
@@ -213,6 +220,13 @@ turn-joins t u = (turn-join, λ j. turn_trans (reduce_turn j.left) (turn-sym (re
 -- No rule applies to a normal term.
 pub normal_no_rule : {n : ℕ} {t u : Term} → Rule n t u → Normal t → ⊥
 normal_no_rule {t = Term.app t u} r h = elim h [ ]
+normal_no_rule {t = Term.J} r h = elim r [ ]
+normal_no_rule {t = Term.R t} r h = elim r [ ]
+normal_no_rule {t = Term.H _ t} r h = elim r [ ]
+normal_no_rule {t = Term.A s t} r h = elim r [ ]
+normal_no_rule {t = Term.I} r h = elim r [ ]
+normal_no_rule {t = Term.B u s} r h = elim r [ ]
+normal_no_rule {t = Term.bell k} r h = elim r [ ]
 
 -- No part of a normal term can be changed forwards.
 pub normal-unchanged : {n : ℕ} {p : Place} {t u : Term} → Normal t → Change n p t u → ⊥
@@ -224,6 +238,8 @@ normal-unchanged (Normal.normal-A h k) (Change.in_A₁ c) = normal-unchanged h c
 normal-unchanged (Normal.normal-A h k) (Change.in_A₂ c) = normal-unchanged k c
 normal-unchanged (Normal.normal-B h k) (Change.in_B₁ c) = normal-unchanged h c
 normal-unchanged (Normal.normal-B h k) (Change.in_B₂ c) = normal-unchanged k c
+normal-unchanged h (Change.in_app₁ _) = elim h [ ]
+normal-unchanged h (Change.in_app₂ _) = elim h [ ]
 
 -- A normal term reduces to itself alone.
 pub normal_reduce : {t u : Term} → Normal t → Reduce t u → t ≡ u

@@ -96,3 +96,4 @@ reduce_keeps-derivable r d = has_derivation (reduce_keeps r (derivation_has d.de
 -- `.IJ` has no type in the context `*` a `1`, though its result `J` has: `I` gives the empty context.
 pub app-I-J_untyped : (a : Simple) (W : Ty) → Has (Context.bind a Context.empty) (Term.app Term.I Term.J) W → ⊥
 app-I-J_untyped a W (Has.has_s Has.has_I h) = elim h [ ]
+app-I-J_untyped a _ (Has.has_f x _) = elim x [ ]

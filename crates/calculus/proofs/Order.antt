@@ -18,6 +18,9 @@ ordered-not-normal (Ordered.in_A₁ n o) (Normal.normal-A m k) = n m
 ordered-not-normal (Ordered.in_A₂ m n o) (Normal.normal-A k l) = n l
 ordered-not-normal (Ordered.in_B₁ n o) (Normal.normal-B m k) = n m
 ordered-not-normal (Ordered.in_B₂ m n o) (Normal.normal-B k l) = n l
+ordered-not-normal (Ordered.in_function _ _) x = elim x [ ]
+ordered-not-normal (Ordered.in_argument _ _ _) x = elim x [ ]
+ordered-not-normal (Ordered.itself _ _) x = elim x [ ]
 
 -- a term that has a next step is not normal
 pub step-not-normal : {n : ℕ} {t u : Term} → Step n t u → ¬ Normal t
@@ -177,6 +180,7 @@ one_side (Ordered.in_H₁ n o) (Ordered.in_H₂ m k o') = n m
 one_side (Ordered.in_A₁ n o) (Ordered.in_A₂ m k o') = n m
 one_side (Ordered.in_B₁ n o) (Ordered.in_B₂ m k o') = n m
 one_side (Ordered.in_function Application.application o) (Ordered.in_argument f a o') = elim f [ ]
+one_side (Ordered.in_R _ _) x = elim x [ ]
 
 -- the order puts the next step of no term both at the term itself and in a part
 itself_or_part : {t : Term} {side : Side} {q : Place} → Ordered t [] → ¬ Ordered t (side ∷ q)
@@ -202,10 +206,10 @@ pub ordered_unique : {t : Term} {p q : Place} → Ordered t p → Ordered t q �
 ordered_unique {p = []} {q = []} o o' = refl
 ordered_unique {p = []} {q = side ∷ q} o o' = absurd (itself_or_part o o')
 ordered_unique {p = side ∷ p} {q = []} o o' = absurd (itself_or_part o' o)
-ordered_unique {p = Side.first ∷ p} {q = Side.first ∷ q} o o' = let (part, a, b) = one-part o o' in ap (◌∷◌ Side.first) (ordered_unique a b)
+ordered_unique {p = Side.first ∷ p} {q = Side.first ∷ q} o o' = let (part, a, b) = one-part o o' in ap (◌∷◌ Side.first) (ordered_unique {t = part} {p = p} a b)
 ordered_unique {p = Side.first ∷ p} {q = Side.second ∷ q} o o' = absurd (one_side o o')
 ordered_unique {p = Side.second ∷ p} {q = Side.first ∷ q} o o' = absurd (one_side o' o)
-ordered_unique {p = Side.second ∷ p} {q = Side.second ∷ q} o o' = let (part, a, b) = one-part o o' in ap (◌∷◌ Side.second) (ordered_unique a b)
+ordered_unique {p = Side.second ∷ p} {q = Side.second ∷ q} o o' = let (part, a, b) = one-part o o' in ap (◌∷◌ Side.second) (ordered_unique {t = part} {p = p} a b)
 
 -- a term is normal or has a next step
 pub progress : (t : Term) → Normal t ⊎ ((n : ℕ) × (u : Term) × Step n t u)

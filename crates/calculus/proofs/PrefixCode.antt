@@ -28,7 +28,7 @@ letters-distinct = refl
 
 -- each letter is in the alphabet
 listed : (l : Letter) → Memᴰ l alphabet
-listed Letter.J = search (Memᴰ.head, Memᴰ.tail) depth 9
+listed Letter.J = search Memᴰ.head depth 9
 listed Letter.R = search (Memᴰ.head, Memᴰ.tail) depth 9
 listed Letter.H = search (Memᴰ.head, Memᴰ.tail) depth 9
 listed Letter.A = search (Memᴰ.head, Memᴰ.tail) depth 9

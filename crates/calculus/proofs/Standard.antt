@@ -60,6 +60,8 @@ fire Rule.rule_10 (Standard.in_B p p') Standard.in_I = Standard.step-first refl 
 fire Rule.rule_11 (Standard.in_B p p') (Standard.in_B q q') =
     Standard.step-first refl (Standard.in_B (Standard.in_app (Standard.in_B p p') q) (Standard.in_app (Standard.in_B p p') q'))
 fire Rule.rule_13 (Standard.in_B p p') Standard.in_bell = Standard.step-first refl Standard.in_bell
+fire rule (Standard.in_B p p') (Standard.in_app _ _) = elim rule [ ]
+fire rule (Standard.in_app _ _) q = elim rule [ ]
 
 -- a standard reduction and one more change are a standard reduction
 pub absorb : {n : ℕ} {p : Place} {t u v : Term} → Standard t u → Change n p u v → Standard t v
@@ -77,6 +79,10 @@ absorb (Standard.in_B s q) (Change.in_B₂ c) = Standard.in_B s (absorb q c)
 absorb (Standard.in_app s q) (Change.in_app₁ c) = Standard.in_app (absorb s c) q
 absorb (Standard.in_app s q) (Change.in_app₂ c) = Standard.in_app s (absorb q c)
 absorb (Standard.in_app s q) (Change.here rule) = fire rule s q
+absorb (Standard.in_R s) (Change.here rule) = elim rule [ ]
+absorb (Standard.in_H s q) (Change.here rule) = elim rule [ ]
+absorb (Standard.in_A s q) (Change.here rule) = elim rule [ ]
+absorb (Standard.in_B s q) (Change.here rule) = elim rule [ ]
 
 -- and so are a standard reduction and any changes
 absorb_all : {t u v : Term} → Standard t u → Reduce u v → Standard t v
@@ -145,6 +151,7 @@ standard_leads Standard.in_I m = record { area = 0; rules = []; steps = Steps.no
 standard_leads (Standard.in_B s q) (Normal.normal-B m k) =
     leads-both Term.B (λ x y. refl) (λ x y. refl) m (standard_leads s m) (standard_leads q k)
 standard_leads Standard.in_bell m = record { area = 0; rules = []; steps = Steps.none }
+standard_leads (Standard.in_app _ _) m = elim m [ ]
 
 -- whatever changes lead from t to v, and v is normal, the order's steps do
 pub reduce_leads : {t v : Term} → Reduce t v → Normal v → (area : ℕ) × (rules : List ℕ) × Steps area t rules v

@@ -32,6 +32,19 @@ rule-keeps Rule.rule_10 (Has.has_s h Has.has_I) = Has.has_I
 rule-keeps Rule.rule_11 (Has.has_s h (Has.has_B k l)) = Has.has_B (Has.has_s h k) (Has.has_s h l)
 rule-keeps Rule.rule_12 (Has.has_f h k) = Has.has_H h k
 rule-keeps Rule.rule_13 (Has.has_s h Has.has_K) = Has.has_K
+rule-keeps Rule.rule_1 (Has.has_s x h) = elim x [ ]
+rule-keeps Rule.rule_2 (Has.has_s x h) = elim x [ ]
+rule-keeps Rule.rule_3 (Has.has_s x h) = elim x [ ]
+rule-keeps Rule.rule_4 (Has.has_s x h) = elim x [ ]
+rule-keeps Rule.rule_5 (Has.has_f h k) = elim h [ ]
+rule-keeps Rule.rule_6 (Has.has_f h k) = elim h [ ]
+rule-keeps Rule.rule_7 (Has.has_f h k) = elim h [ ]
+rule-keeps Rule.rule_8 (Has.has_f h k) = elim h [ ]
+rule-keeps Rule.rule_9 (Has.has_f h k) = elim h [ ]
+rule-keeps Rule.rule_10 (Has.has_f h k) = elim h [ ]
+rule-keeps Rule.rule_11 (Has.has_f h k) = elim h [ ]
+rule-keeps Rule.rule_12 (Has.has_s x h) = elim x [ ]
+rule-keeps Rule.rule_13 (Has.has_f h k) = elim h [ ]
 
 -- A change of any part of a term keeps each type of the term.
 pub change-keeps : {n : ℕ} {p : Place} {t u : Term} {G : Context} {W : Ty} → Change n p t u → Has G t W → Has G u W

@@ -1,7 +1,7 @@
 -- Terms without bells, and what can be said of them with figures 1 and 2 alone (REQUIREMENTS, Bells). `proofs/BellFree.antt` shows that the rules for bells
 -- say no more of them.
 use Rattle.std.specs.Prelude.{ℕ, ◌≤◌}
-use mathlib.Core.List.{List, ◌∷◌, Memᴰ}
+use mathlib.Core.List.{◌∷◌, Memᴰ}
 use Rattle.calculus.specs.Term.{Term}
 use Rattle.calculus.specs.Change.{Place, Change}
 use Rattle.calculus.specs.Typing.{Judgement}

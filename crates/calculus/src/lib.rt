@@ -1,5 +1,7 @@
 // What code names of the calculus: its letters, the marks of types, the names of typing rules, how many rules there are, and the
 // limits. The theory is in specs/ and proofs/.
+#![tactic(auto)]
+
 pub mod letters;
 pub mod marks;
 pub mod names;
