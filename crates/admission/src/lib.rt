@@ -1,4 +1,6 @@
 // Admission: which calls of finishing are refused.
+#![tactic(auto)]
+
 ghost use Rattle.std.specs.Prelude.{◌≡◌};
 ghost use Rattle.reading.specs.Reply.{number_in, place_in};
 ghost use Rattle.admission.specs.Admission.{admitted, admission};

@@ -1,4 +1,6 @@
 // The lines that the finishing program prints of finishing's answer.
+#![tactic(auto)]
+
 ghost use Rattle.std.specs.Prelude.{◌≡◌};
 ghost use Rattle.slices.specs.Put.{put, behind};
 ghost use Rattle.admission.specs.Answer.{reply_of};

@@ -1,4 +1,6 @@
 // What the finishing program prints, as a function on bytes: no input and no output here.
+#![tactic(auto)]
+
 ghost use Rattle.std.specs.Prelude.{◌≡◌, ℕ, min, ◌++◌, length, drop};
 ghost use Rattle.slices.specs.Put.{put, behind};
 ghost use Rattle.admission.specs.Answer.{reply_of};

@@ -1,5 +1,7 @@
 // Arenas in five sizes, so that a short term does not pay for zeroing a long one's. A term gets the smallest that has four cells for each
 // of its letters, and goes on in the next larger one when that is full or outgrown.
+#![tactic(auto)]
+
 ghost use Rattle.machine.specs.Advancing.{Runnable, Advanced};
 
 use large_arenas::{both, in_large, is_all};

@@ -1,4 +1,6 @@
 // Chains of bells as rows: each row by value, in twelve places.
+#![tactic(auto)]
+
 ghost use Rattle.std.specs.Prelude.{◌≡◌, take};
 ghost use Rattle.bell_rows.specs.Bytes.{bell_number, is_chain_text, bells_in};
 ghost use Rattle.bell_rows.specs.Row.{most, is_row, placed};

@@ -1,5 +1,7 @@
 // Playing a book: every line is checked before any line runs; then each is finished in turn, with the results of earlier lines in place of
 // its uses.
+#![tactic(auto)]
+
 ghost use Rattle.std.specs.Prelude.{◌≡◌, ◌-◌, ◌≤◌, length, take, replicate, List, ◌++◌};
 ghost use Rattle.reading.specs.Reply.{number_in, place_in};
 ghost use Rattle.finishing.specs.Answer.{outcome_of};

@@ -1,4 +1,6 @@
 // One line of a book: what it is refused for, behind lines whose names are known by their numbers.
+#![tactic(auto)]
+
 ghost use Rattle.std.specs.Prelude.{◌≡◌, ◌&&◌, ltb};
 ghost use Rattle.books.specs.Name.{is_small, is_name};
 ghost use Rattle.books.specs.Book.{line_limit};

@@ -1,4 +1,6 @@
 // Names of lines as numbers, a table of them, and the marks by which names are found.
+#![tactic(auto)]
+
 ghost use Rattle.std.specs.Prelude.{◌≡◌, ◌+◌, drop};
 ghost use Rattle.slices.specs.Find.{index_of};
 ghost use Rattle.book_names.specs.Key.{key_of, is_in};

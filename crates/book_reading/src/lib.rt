@@ -1,4 +1,6 @@
 // Reading a book: the whole of it, line by line, before any line is played.
+#![tactic(auto)]
+
 ghost use Rattle.std.specs.Prelude.{◌≡◌, []};
 ghost use Rattle.reading.specs.Reply.{number_in, place_in};
 ghost use Rattle.slices.specs.Split.{line_feed, lines, last_byte};

@@ -1,4 +1,5 @@
 // Books: names, pieces with uses, lines, what is read of a book and how it is played, with their theorems. Of code it has only constants.
+#![tactic(auto)]
 
 // The small letters, and the most of them in a name (specs/Name.antt).
 pub const FIRST_SMALL: u8 = 97;

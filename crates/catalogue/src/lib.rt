@@ -1,4 +1,6 @@
 // The catalogue: finished results, entered in a store that the caller lends, each under a number.
+#![tactic(auto)]
+
 ghost use Rattle.std.specs.Prelude.{◌≡◌, ◌++◌, ◌+◌, ◌*◌, length};
 ghost use Rattle.slices.specs.Put.{put};
 ghost use Rattle.words.specs.Word.{word_of};

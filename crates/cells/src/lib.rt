@@ -1,5 +1,7 @@
 // The arena: cells of 64 bits, each a letter, two indices of cells and a size. A cell is written at the top, once, and never changed, so
 // that what one cell stands for stays so, and several may share their parts.
+#![tactic(auto)]
+
 ghost use Rattle.std.specs.Prelude.{◌≡◌, ◌+◌, ◌<◌, get_or, set};
 ghost use Rattle.cells.specs.Cell as cell;
 ghost use Rattle.cells.specs.Cell.{cell_limit, size_limit, letter_in, first_in, second_in, size_in, Free, Joinable};

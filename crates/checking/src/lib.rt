@@ -1,4 +1,6 @@
 // Checking derivation files; what they are and what is answered stands in derivation_files.
+#![tactic(auto)]
+
 ghost use Rattle.std.specs.Prelude.{◌≡◌, ◌≤◌, [], length};
 ghost use Rattle.reading.specs.Reply.{number_in, place_in};
 ghost use Rattle.calculus.specs.Limits.{line_limit};

@@ -1,4 +1,6 @@
 // How a reply is one number, for callers in C: a code, and what stands behind it.
+#![tactic(auto)]
+
 ghost use Rattle.std.specs.Prelude.{◌≡◌};
 ghost use Rattle.codes.specs.Encoding.{Parts, encode};
 

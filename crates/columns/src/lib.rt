@@ -1,4 +1,6 @@
 // A field or a number and the mark behind it, written into a slice. Total: the definition says what happens where they do not fit.
+#![tactic(auto)]
+
 ghost use Rattle.std.specs.Prelude.{◌≡◌, [], ◌∷◌, ◌++◌};
 ghost use Rattle.slices.specs.Numeral.{decimal};
 ghost use Rattle.slices.specs.Put.{put, behind};

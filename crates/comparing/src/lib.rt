@@ -1,4 +1,6 @@
 // Comparing: both runs, and the verdict on them.
+#![tactic(auto)]
+
 ghost use Rattle.std.specs.Prelude.{◌≡◌};
 ghost use Rattle.verdicts.specs.Comparing.{After, comparing_of};
 ghost use Rattle.verdicts.specs.Answer.{answer_of};

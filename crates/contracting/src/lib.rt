@@ -1,4 +1,6 @@
 // The rules in the arena: what a rule gives is built at the top, of the parts that its left side has.
+#![tactic(auto)]
+
 ghost use Rattle.std.specs.Prelude.{◌≡◌, get_or};
 ghost use Rattle.calculus.specs.Letter.{Letter, byte};
 ghost use Rattle.calculus.specs.Term.{Term};

@@ -1,4 +1,6 @@
 // The engine for the controller's firmware: one exported function for each operation, each reply as one number.
+#![tactic(auto)]
+
 ghost use Rattle.std.specs.Prelude.{◌≡◌};
 ghost use Rattle.reading.specs.Reading.{reading_of};
 ghost use Rattle.stepping.specs.Stepping.{stepping_of};

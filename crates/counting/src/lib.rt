@@ -1,4 +1,6 @@
 // Finishing with counts: the run, and how often it used each rule, written into a slice that the caller lends.
+#![tactic(auto)]
+
 ghost use Rattle.std.specs.Prelude.{◌≡◌};
 ghost use Rattle.reading.specs.Reply.{number_in, place_in};
 ghost use Rattle.finishing.specs.Answer.{ran_of};

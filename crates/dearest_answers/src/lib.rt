@@ -1,4 +1,6 @@
 // What the program for the dearest small term prints, as a function on bytes: no input and no output here.
+#![tactic(auto)]
+
 ghost use Rattle.std.specs.Prelude.{◌≡◌};
 ghost use Rattle.slices.specs.Put.{put, behind};
 ghost use Rattle.small_terms.specs.Dearest.{dearest_of};

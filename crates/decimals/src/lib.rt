@@ -1,4 +1,6 @@
 // Decimal numbers without leading zeros, read a byte at a time or a slice at once. Numbers above a cap are kept as the cap.
+#![tactic(auto)]
+
 ghost use Rattle.std.specs.Prelude.{◌≡◌, ◌-◌};
 ghost use Rattle.slices.specs.Numeral.{is_digit, digit0, decimal_of};
 ghost use Rattle.decimals.specs.Parsed.{fed, first, further, more, parsed_of, up_to};

@@ -1,1 +1,2 @@
 // What derivation files are and what checking answers, on trees. It has no code.
+#![tactic(auto)]

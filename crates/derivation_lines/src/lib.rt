@@ -1,4 +1,6 @@
 // One line of a derivation file: what it is refused for, or that it follows.
+#![tactic(auto)]
+
 ghost use Rattle.std.specs.Prelude.{◌≡◌};
 ghost use Rattle.calculus.specs.Parse.{term_of};
 ghost use Rattle.types.specs.Tests.{is_some};

@@ -1,4 +1,6 @@
 // Letters from the arena into the area: the first letter of the part in focus, which no later step changes, or all that is left of a term.
+#![tactic(auto)]
+
 ghost use Rattle.std.specs.Prelude.{◌≡◌, true, ◌<◌, take, get_or};
 ghost use Rattle.calculus.specs.Term.{Term, text, size};
 ghost use Rattle.cells.specs.Cell.{letter_in};

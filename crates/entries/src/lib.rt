@@ -1,4 +1,5 @@
 // Catalogues: what they are, their stores as bytes, and entries, with their theorems. Of code it has only constants.
+#![tactic(auto)]
 
 // The most results of a catalogue, and the most letters of all of them together (specs/Catalogue.antt).
 pub const ENTRY_LIMIT: usize = 256;

@@ -1,4 +1,6 @@
 // A line of three fields, fed from standard input: what every program that takes such a line reads with.
+#![tactic(auto)]
+
 ghost use Rattle.std.specs.Int.{w64};
 ghost use Rattle.std.proofs.Common.{SFits};
 ghost use Rattle.line_states.specs.Fed.{start_line};

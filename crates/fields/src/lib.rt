@@ -1,4 +1,6 @@
 // The fields of a line, by where they stand.
+#![tactic(auto)]
+
 pub mod texts;
 
 ghost use Rattle.std.specs.Prelude.{◌≡◌};

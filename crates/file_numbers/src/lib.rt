@@ -1,4 +1,6 @@
 // The answers of the operations on derivation files, each as one number for callers in C.
+#![tactic(auto)]
+
 ghost use Rattle.std.specs.Prelude.{◌≡◌};
 ghost use Rattle.checking.specs.Answer.{answer_of as checkingAnswer};
 ghost use Rattle.matching.specs.Answer.{answer_of as matchingAnswer};

@@ -1,4 +1,6 @@
 // What is written into slices: pieces, single bytes and zeros. What does not fit is left out.
+#![tactic(auto)]
+
 ghost use Rattle.std.specs.Prelude.{◌≡◌, [], ◌∷◌, ◌++◌, ◌+◌, ◌-◌, ◌≤◌, length, take, replicate};
 ghost use Rattle.slices.specs.Part.{part};
 ghost use Rattle.slices.specs.Put.{put, behind};

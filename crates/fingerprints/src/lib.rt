@@ -1,4 +1,6 @@
 // The fingerprint of bytes: 32 bits by which a catalogue passes over most results without comparing them.
+#![tactic(auto)]
+
 ghost use Rattle.std.specs.Prelude.{◌≡◌, ◌*◌, ◌%◌};
 ghost use Rattle.words.specs.Word.{word_limit};
 ghost use Rattle.fingerprints.specs.Print.{print_of};

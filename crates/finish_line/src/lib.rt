@@ -1,4 +1,6 @@
 // What the finishing program's line asks for: fuel, area size and term.
+#![tactic(auto)]
+
 ghost use Rattle.std.specs.Prelude.{◌≡◌};
 ghost use Rattle.finish_line.specs.Request.{is_area_size};
 ghost use Rattle.finish_line.specs.Answer.{asked_with, asked_of, number_of};

@@ -1,5 +1,7 @@
 // Finishing: the run of the term in a lent area. `stepping::steps` makes several steps at once, and where it makes none `stepping::step`
 // makes the next one or finds that it has no room.
+#![tactic(auto)]
+
 ghost use Rattle.std.specs.Prelude.{◌≡◌, ◌≤◌, ◌*◌, min, length};
 ghost use Rattle.calculus.specs.Limits.{fuel_limit};
 ghost use Rattle.calculus.specs.Term.{Term};

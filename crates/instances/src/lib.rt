@@ -1,4 +1,6 @@
 // The nine typing rules on texts: what each asks of contexts and types, and whether a line is an instance of it.
+#![tactic(auto)]
+
 ghost use Rattle.std.specs.Prelude.{◌≡◌};
 ghost use Rattle.fields.specs.Texts.{text_at};
 ghost use Rattle.fields.specs.Fields.{texts_at};

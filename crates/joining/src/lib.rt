@@ -1,4 +1,6 @@
 // Joining: one piece after another, as one term.
+#![tactic(auto)]
+
 ghost use Rattle.std.specs.Prelude.{◌≡◌, ◌≤◌, leb, length};
 ghost use Rattle.slices.specs.Wrote.{Wrote};
 ghost use Rattle.reading.specs.Reply.{number_in, place_in};

@@ -1,4 +1,6 @@
 // The two largest arenas, for up to 4,096 letters and for up to 16,384, and when a batch goes on in the next.
+#![tactic(auto)]
+
 ghost use Rattle.std.specs.Prelude.{◌≡◌, ◌+◌, ◌≤◌};
 ghost use Rattle.calculus.specs.Limits.{fuel_limit};
 ghost use Rattle.machine.specs.Advancing.{Runnable, Advanced};

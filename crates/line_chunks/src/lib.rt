@@ -1,4 +1,6 @@
 // A line of three fields, fed chunk by chunk.
+#![tactic(auto)]
+
 ghost use Rattle.std.specs.Prelude.{◌≡◌, set};
 ghost use Rattle.line_states.specs.Kept.{is_kept, kept_at, kept_byte};
 ghost use Rattle.line_states.specs.State.{state, fed};

@@ -1,4 +1,6 @@
 // Playing one line of a book: the results of earlier lines in place of its uses, then the line is finished, and its result is put behind theirs.
+#![tactic(auto)]
+
 ghost use Rattle.std.specs.Prelude.{◌≡◌, length, List};
 ghost use Rattle.books.specs.Line.{Line};
 ghost use Rattle.books.specs.Play.{Result, Play, further};

@@ -1,4 +1,6 @@
 // The state of a line of three fields, a byte at a time: two decimal numbers, then any bytes but tab and line feed.
+#![tactic(auto)]
+
 ghost use Rattle.std.specs.Prelude.{◌≡◌};
 ghost use Rattle.line_states.specs.Fed.{start_line, fed_line, in_first, first_read, in_second, second_read, in_third, counted};
 

@@ -1,5 +1,7 @@
 // Loading: a cell for each letter of a term's text, from the last to the first. The first part of a letter's term is the cell written just
 // before its own; as many cells below that as it has letters is the second.
+#![tactic(auto)]
+
 ghost use Rattle.std.specs.Prelude.{◌≡◌, ◌+◌, length, List};
 ghost use Rattle.calculus.specs.Term.{Term, text};
 ghost use Rattle.calculus.specs.Parse.{Item};

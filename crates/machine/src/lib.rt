@@ -1,4 +1,6 @@
 // The machine: up to so many steps of a term, made in an arena. The term is loaded, turned, and written back.
+#![tactic(auto)]
+
 ghost use Rattle.std.specs.Prelude.{◌≡◌, ◌≤◌, min, true};
 ghost use Rattle.cells.specs.Cell.{cell_limit};
 ghost use Rattle.turning.specs.Turning.{Turnable};

@@ -1,4 +1,6 @@
 // Matching the claims of two derivation files.
+#![tactic(auto)]
+
 ghost use Rattle.std.specs.Prelude.{◌≡◌};
 ghost use Rattle.reading.specs.Reply.{number_in, place_in};
 ghost use Rattle.slices.specs.Same.{same};

@@ -1,4 +1,6 @@
 // What the program for the mix of rules prints, as a function on bytes: no input and no output here.
+#![tactic(auto)]
+
 ghost use Rattle.std.specs.Prelude.{◌≡◌};
 ghost use Rattle.answering.specs.Answer.{term_after, work_after};
 ghost use Rattle.mix_lines.specs.PutAll.{put_all};

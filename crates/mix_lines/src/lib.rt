@@ -1,4 +1,6 @@
 // The lines that show how often each rule was used: rule, count and a bar, scaled to the largest count.
+#![tactic(auto)]
+
 ghost use Rattle.std.specs.Prelude.{◌≡◌, max};
 ghost use Rattle.slices.specs.Put.{put, behind};
 ghost use Rattle.mix_lines.specs.Mix.{bar_width, mix_row, largest_of, mix_rows};

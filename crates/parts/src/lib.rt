@@ -1,4 +1,6 @@
 // Where the parts of a term end, in a table that is filled once and then looked up.
+#![tactic(auto)]
+
 ghost use Rattle.std.specs.Prelude.{◌≡◌, ◌≤◌, ◌<◌, length};
 ghost use Rattle.calculus.specs.Limits.{area_limit};
 ghost use Rattle.calculus.specs.Letter.{letter_of};

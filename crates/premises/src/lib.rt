@@ -1,4 +1,6 @@
 // Premise fields.
+#![tactic(auto)]
+
 ghost use Rattle.std.specs.Prelude.{◌≡◌, min, get_or};
 ghost use Rattle.calculus.specs.Limits.{line_limit};
 ghost use Rattle.slices.specs.Numeral.{number_of};

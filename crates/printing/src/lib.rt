@@ -1,4 +1,6 @@
 // The lines that programs print: fields with tabs between them, ended by a line feed, put into a buffer that the caller lends.
+#![tactic(auto)]
+
 ghost use Rattle.std.specs.Prelude.{◌≡◌};
 ghost use Rattle.slices.specs.Put.{put, behind};
 ghost use Rattle.printing.specs.Printed.{line_of, numbers_of, count_of};

@@ -1,4 +1,6 @@
 // Reading: whether bytes are the text of one term.
+#![tactic(auto)]
+
 ghost use Rattle.std.specs.Prelude.{◌≡◌};
 ghost use Rattle.calculus.specs.Bell.{is_bell};
 ghost use Rattle.reading.specs.Reply.{number_in, place_in};

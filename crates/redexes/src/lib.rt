@@ -1,4 +1,6 @@
 // The search for the redex: the application to which the next step's rule applies.
+#![tactic(auto)]
+
 ghost use Rattle.std.specs.Prelude.{◌≤◌, length};
 ghost use Rattle.parts.specs.Ends.{listed};
 ghost use Rattle.redexes.specs.Moves.{Move, Leads};

@@ -1,5 +1,7 @@
 // The rewrite that makes the next step of a term: the ends of parts are stored once, in a local table, and the search for the redex and the
 // rewriting look them up.
+#![tactic(auto)]
+
 ghost use Rattle.std.specs.Prelude.{◌≡◌, ◌≤◌, length};
 ghost use Rattle.calculus.specs.Limits.{area_limit};
 ghost use Rattle.calculus.specs.Term.{Term, text};

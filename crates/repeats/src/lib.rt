@@ -1,4 +1,6 @@
 // How many different numbers a slice holds.
+#![tactic(auto)]
+
 ghost use Rattle.std.specs.Prelude.{◌≡◌, eqb, length};
 ghost use Rattle.repeats.specs.Repeats.{among, withoutRepeats};
 

@@ -1,4 +1,6 @@
 // The text of a piece with each use replaced by the result that its name stands for.
+#![tactic(auto)]
+
 ghost use Rattle.std.specs.Prelude.{◌≡◌, get_or};
 ghost use Rattle.replacing.specs.Spelled.{held_by, spelled_in};
 ghost use Rattle.replacing.specs.Leaves.{Leaves};

@@ -1,4 +1,6 @@
 // The rewriting: the right side of a rule in place of its left side, in the text of a term.
+#![tactic(auto)]
+
 ghost use Rattle.std.specs.Prelude.{◌≡◌, ◌-◌, ◌<◌, length, get_or};
 ghost use Rattle.calculus.specs.Letter.{letter_of};
 ghost use Rattle.parts.specs.Ends.{listed};

@@ -1,4 +1,6 @@
 // Rows for the striker: a chain of bells, as rows in a table.
+#![tactic(auto)]
+
 ghost use Rattle.std.specs.Prelude.{◌≡◌, ◌*◌, ◌≤◌, length, take};
 ghost use Rattle.slices.specs.Same.{same};
 ghost use Rattle.slices.specs.Wrote.{Wrote};

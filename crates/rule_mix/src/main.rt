@@ -1,6 +1,8 @@
 // The program for the mix of rules: the finishing program's line from standard input, its answer and a line for each rule to standard
 // output.
 // Where standard input cannot be read or standard output cannot be written, one line on standard error says so.
+#![tactic(auto)]
+
 ghost use Rattle.std.specs.Prelude.{◌≡◌};
 ghost use Rattle.finish_line.specs.Answer.{asked_of};
 ghost use Rattle.mix_lines.specs.PutAll.{put_all};

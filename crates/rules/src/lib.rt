@@ -1,4 +1,6 @@
 // The typing rules by name: the letter, how many premises each has, and the term that it builds of theirs.
+#![tactic(auto)]
+
 ghost use Rattle.std.specs.Prelude.{◌≡◌};
 ghost use Rattle.derivation_files.specs.Line.{names, find_name, name_of};
 ghost use Rattle.fields.specs.Texts.{text_at};

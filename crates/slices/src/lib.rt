@@ -1,4 +1,6 @@
 // What is read of slices: bytes, parts and their places. Each function is total: its definition says what happens out of range.
+#![tactic(auto)]
+
 ghost use Rattle.std.specs.Prelude.{◌≡◌, get_or, length, replicate};
 ghost use Rattle.slices.specs.Find.{index_of};
 ghost use Rattle.slices.specs.Part.{part};

@@ -1,4 +1,6 @@
 // Which calls for small terms are refused.
+#![tactic(auto)]
+
 ghost use Rattle.std.specs.Prelude.{◌≡◌};
 ghost use Rattle.reading.specs.Reply.{number_in};
 ghost use Rattle.small_admission.specs.Admission.{is_small_size, admitted};

@@ -1,4 +1,6 @@
 // Small terms and their runs: every term of a size from 1 to 7 in the seven letters that are no bells is run, in byte order.
+#![tactic(auto)]
+
 ghost use Rattle.std.specs.Prelude.{◌≡◌, ◌≤◌, ◌<◌, length};
 ghost use Rattle.calculus.specs.Limits.{fuel_limit};
 ghost use Rattle.finishing.specs.Answer.{outcome_of};

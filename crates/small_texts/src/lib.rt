@@ -1,4 +1,6 @@
 // The texts of small terms in byte order: how many there are of a length, and each of them by its index.
+#![tactic(auto)]
+
 ghost use Rattle.std.specs.Prelude.{◌≡◌, suc, ◌≤◌, ◌<◌, length};
 ghost use Rattle.small_texts.specs.Texts.{largest_size, letter_at, text_at};
 ghost use Rattle.small_texts.specs.Texts.{ways as ways_of};

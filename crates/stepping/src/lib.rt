@@ -1,4 +1,6 @@
 // Stepping: one step of the term in a lent area, or several at once.
+#![tactic(auto)]
+
 ghost use Rattle.std.specs.Prelude.{◌≡◌, ℕ, ◌≤◌, length, take, []};
 ghost use Rattle.calculus.specs.Limits.{area_limit, fuel_limit};
 ghost use Rattle.calculus.specs.Counts.{tally};

@@ -1,4 +1,6 @@
 // Stores of catalogues: the test whether a store is one that entries leave, and the search for a result. Both are total.
+#![tactic(auto)]
+
 ghost use Rattle.std.specs.Prelude.{◌≡◌, ◌-◌, ◌≤◌, length};
 ghost use Rattle.slices.specs.Same.{same};
 ghost use Rattle.entries.specs.Catalogue.{entry_limit, letter_limit};

@@ -1,5 +1,7 @@
 // The program for small terms: one line from standard input, one line to standard output.
 // Where standard input cannot be read or standard output cannot be written, one line on standard error says so.
+#![tactic(auto)]
+
 ghost use Rattle.std.specs.Prelude.{◌≡◌};
 ghost use Rattle.slices.specs.Put.{put, behind};
 ghost use Rattle.answering.specs.Program.{unless_failed};

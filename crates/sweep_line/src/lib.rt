@@ -1,4 +1,6 @@
 // What a line of three numbers asks for: the size of small terms, fuel and area size.
+#![tactic(auto)]
+
 ghost use Rattle.std.specs.Prelude.{◌≡◌};
 ghost use Rattle.sweep_line.specs.Answer.{asked_with, asked_of};
 

@@ -1,4 +1,6 @@
 // Counts by rule, rule 1 first: one use more, and the counts of two pieces of a run together.
+#![tactic(auto)]
+
 ghost use Rattle.std.specs.Prelude.{◌≡◌, List, ◌++◌, ℕ};
 ghost use Rattle.calculus.specs.Counts.{tally};
 ghost use Rattle.tallies.specs.Tallies.{Countable, bumped, Addable};

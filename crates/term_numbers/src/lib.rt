@@ -1,4 +1,6 @@
 // The answers of the operations on terms, each as one number for callers in C.
+#![tactic(auto)]
+
 ghost use Rattle.std.specs.Prelude.{◌≡◌};
 ghost use Rattle.reading.specs.Answer.{answer_of as readingAnswer};
 ghost use Rattle.stepping.specs.Answer.{answer_of as steppingAnswer};

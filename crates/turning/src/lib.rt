@@ -1,5 +1,7 @@
 // A turn of the machine: it keeps its place in the term from one step to the next, and looks at each part once on the way to it. A turn
 // writes a letter that is final, looks into an application, or makes a step.
+#![tactic(auto)]
+
 ghost use Rattle.std.specs.Prelude.{◌≡◌, ℕ, ◌<◌, List, length, get_or, set, take};
 ghost use Rattle.calculus.specs.Letter.{Letter, byte};
 ghost use Rattle.calculus.specs.Term.{Term};

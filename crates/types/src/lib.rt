@@ -1,4 +1,6 @@
 // Scanning types on bytes.
+#![tactic(auto)]
+
 ghost use Rattle.std.specs.Prelude.{◌≡◌};
 ghost use Rattle.types.specs.Parse.{type_of, context_of};
 ghost use Rattle.types.specs.Tests.{is_some, is_simple};

@@ -1,4 +1,6 @@
 // What comparing answers: whether two terms have the same result, by the records of their runs.
+#![tactic(auto)]
+
 ghost use Rattle.std.specs.Prelude.{◌≡◌};
 ghost use Rattle.slices.specs.Part.{part};
 ghost use Rattle.reading.specs.Reply.{Reply, number_in, place_in};

@@ -1,4 +1,6 @@
 // Numbers as four bytes each, low byte first, read from a slice and written into one. Total: the definition says what happens where they do not fit.
+#![tactic(auto)]
+
 ghost use Rattle.std.specs.Prelude.{◌≡◌, ◌≤◌};
 ghost use Rattle.slices.specs.Put.{put, behind};
 ghost use Rattle.words.specs.Word.{word_of, words_of, word_at};

@@ -1,4 +1,6 @@
 // The writer: the text that a rewrite makes, piece by piece, and back in the area that it was made of.
+#![tactic(auto)]
+
 ghost use Rattle.std.specs.Prelude.{◌≡◌, ◌≤◌, length, take, replicate};
 ghost use Rattle.slices.specs.Put.{put, behind};
 ghost use Rattle.rewriting.specs.Text.{letter_text, pieces_of, rewritten};

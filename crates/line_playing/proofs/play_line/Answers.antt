@@ -1,0 +1,51 @@
+-- `line_playing::play_line` meets its contract: each way out is what the line comes to.
+use native.Mathlib.Omega.{arith}
+use Rattle.line_playing.proofs.Lining.{line-large, line-stops, store-full, line_gives}
+use Rattle.line_playing.proofs.play_line.Goals as goal
+
+pub returns-in_default : goal.returns-in_default
+returns-in_default c =
+    λ earlier results l lent shelved playable.
+    line-large c.args.area.now c.args.work.now c.args.fuel lent shelved playable
+    c.replace-replacing.result _ c.replace-replacing.ensures c.in_default.is
+    c.no_result.result.outcome c.no_result.result.size _ _ c.no_result.ensures.0
+
+pub returns-in_default-outcome : goal.returns-in_default-outcome
+returns-in_default-outcome c =
+    λ earlier results l lent shelved playable.
+    line-stops c.args.area.now c.args.work.now c.args.fuel lent shelved playable
+    c.replace-replacing.result c.in-Fits.len _ c.finish-finishing.result.run
+    c.in-Fits.is
+    c.replace-replacing.ensures c.finish-finishing.ensures.work_after
+    c.no_result-in_default-outcome.result.outcome c.no_result-in_default-outcome.result.size _ _ c.no_result-in_default-outcome.ensures.0 c.in_default-outcome.is
+
+pub returns-then-store-size : goal.returns-then-store-size
+returns-then-store-size c =
+    λ earlier results l lent shelved playable.
+    store-full c.args.area.now c.args.work.now c.args.fuel lent shelved playable
+    c.replace-replacing.result c.in-Fits.len _ c.finish-finishing.result.run
+    c.in-Fits.is
+    c.replace-replacing.ensures c.finish-finishing.ensures.work_after
+    c.in-Finished.is (omega (arith, c.if-store-size.true)) c.no_result-then-store-size.result.outcome
+    c.no_result-then-store-size.result.size _ _
+    c.no_result-then-store-size.ensures.0
+
+pub returns-then-store-size-2 : goal.returns-then-store-size-2
+returns-then-store-size-2 c =
+    λ earlier results l lent shelved playable.
+    store-full c.args.area.now c.args.work.now c.args.fuel lent shelved playable
+    c.replace-replacing.result c.in-Fits.len _ c.finish-finishing.result.run
+    c.in-Fits.is
+    c.replace-replacing.ensures c.finish-finishing.ensures.work_after
+    c.in-Finished.is (omega (arith, c.if-store-size.false, c.if-store-size-2.true))
+    c.no_result-then-store-size-2.result.outcome
+    c.no_result-then-store-size-2.result.size _ _ c.no_result-then-store-size-2.ensures.0
+
+pub returns : goal.returns
+returns c =
+    λ earlier results l lent shelved playable.
+    line_gives c.args.area.now c.args.work.now c.args.fuel lent shelved playable
+    c.replace-replacing.result c.replacing-1.given.0.0 _ c.finish-finishing.result.run
+    c.replacing-1.given.1
+    c.replace-replacing.ensures c.finish-finishing.ensures.work_after
+    c.enum_told-in-Finished-1.given.1 _ (omega (arith, c.if-store-size.false, c.if-store-size-2.false)) c.append.ensures.0

@@ -1,0 +1,20 @@
+-- `printing::print_numbers` meets its contract: three fields, with room for all of them.
+use native.Mathlib.Omega.{arith}
+use mathlib.Core.List.{[], ◌∷◌}
+use Rattle.slices.specs.Numeral.{decimal}
+use Rattle.printing.proofs.Writing.{Fields, row_appended, row-none}
+use Rattle.printing.proofs.print_numbers.Goals as goal
+
+pub returns-then-out-word : goal.returns-then-out-word
+returns-then-out-word c =
+    let a = c.args in
+    let fields = a.word.now ∷ decimal a.first ∷ decimal a.second ∷ [] in
+    row-none fields a.out.now (omega arith)
+
+pub returns : goal.returns
+returns c =
+    let a = c.args in
+    let fields = a.word.now ∷ decimal a.first ∷ decimal a.second ∷ [] in
+    row_appended fields a.out.now (omega arith)
+    (Fields.next c.append_field-a.ensures
+    (Fields.next c.append_number-b.ensures (Fields.last c.append_number.ensures)))
