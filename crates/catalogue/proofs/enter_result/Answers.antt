@@ -11,23 +11,23 @@ slice_bounds-number_of-end-2 c = sym (length-take-le store_size c.args.store.now
 
 pub returns-then-number-ne0 : goal.returns-then-number-ne0
 returns-then-number-ne0 c =
-    entered-known c.args.term.now c.args.store.now c.requires c.number_of_lem.result
-    c.fingerprint-print.result c.fingerprint-print.ensures c.number_of_lem.ensures c.if-number-ne0.true
+    entered-known c.args.term.now c.args.store.now c.requires c.number_of-number.result
+    c.fingerprint-print.result c.fingerprint-print.ensures c.number_of-number.ensures c.if-number-ne0.true
 
 pub returns-then-count-ge-ENTRY_LIMIT : goal.returns-then-count-ge-ENTRY_LIMIT
 returns-then-count-ge-ENTRY_LIMIT c =
-    refused-count c.args.term.now c.args.store.now c.requires c.number_of_lem.result
+    refused-count c.args.term.now c.args.store.now c.requires c.number_of-number.result
     c.fingerprint-print.result
-    c.fingerprint-print.ensures c.number_of_lem.ensures c.if-number-ne0.false (omega (arith, c.if-count-ge-ENTRY_LIMIT.true))
+    c.fingerprint-print.ensures c.number_of-number.ensures c.if-number-ne0.false (omega (arith, c.if-count-ge-ENTRY_LIMIT.true))
 
 pub overflow_sub-used : goal.overflow_sub-used
 overflow_sub-used c = within c.args.term.now c.args.store.now c.requires
 
 pub returns-then-used-term : goal.returns-then-used-term
 returns-then-used-term c =
-    refused-letters c.args.term.now c.args.store.now c.requires c.number_of_lem.result
+    refused-letters c.args.term.now c.args.store.now c.requires c.number_of-number.result
     c.fingerprint-print.result
-    c.fingerprint-print.ensures c.number_of_lem.ensures c.if-number-ne0.false (omega (arith, c.if-used-term.true))
+    c.fingerprint-print.ensures c.number_of-number.ensures c.if-number-ne0.false (omega (arith, c.if-used-term.true))
 
 pub write-requires : goal.write-requires
 write-requires c =
@@ -36,7 +36,7 @@ write-requires c =
 
 pub returns : goal.returns
 returns c =
-    entered-new c.args.term.now c.args.store.now c.requires c.number_of_lem.result
-    c.fingerprint-print.result c.fingerprint-print.ensures c.number_of_lem.ensures c.if-number-ne0.false
+    entered-new c.args.term.now c.args.store.now c.requires c.number_of-number.result
+    c.fingerprint-print.result c.fingerprint-print.ensures c.number_of-number.ensures c.if-number-ne0.false
     (omega (arith, c.if-count-ge-ENTRY_LIMIT.false)) (omega (arith, c.if-used-term.false)) c.write.new.store
     c.write.ensures

@@ -10,14 +10,14 @@ returns-then-head-eq-STOP c = Move.function (sym c.byte_at-head.ensures ∙ c.if
 
 pub returns-then-byte_at-eq-STOP : goal.returns-then-byte_at-eq-STOP
 returns-then-byte_at-eq-STOP c =
-    Move.argument c.end_of_lem.ensures.0 (sym c.byte_at-head.ensures ∙ c.if-head-eq-B.true)
+    Move.argument c.end_of-end.ensures.value (sym c.byte_at-head.ensures ∙ c.if-head-eq-B.true)
     (sym c.byte_at.ensures ∙ c.if-byte_at-eq-STOP.true)
 
 pub returns-then-head-eq-B : goal.returns-then-head-eq-B
 returns-then-head-eq-B c =
     let a = c.args in
     Move.here (λ e. c.if-head-eq-STOP.false (c.byte_at-head.ensures ∙ e))
-    (λ b e. c.if-byte_at-eq-STOP.false (c.byte_at.ensures ∙ ap (λ (n : ℕ). get_or a.s.now n 0) c.end_of_lem.ensures.0 ∙ e))
+    (λ b e. c.if-byte_at-eq-STOP.false (c.byte_at.ensures ∙ ap (λ (n : ℕ). get_or a.s.now n 0) c.end_of-end.ensures.value ∙ e))
 
 pub returns : goal.returns
 returns c =

@@ -45,7 +45,7 @@ returns-then-head-eq-H c =
     let end_of = listed a.ends.now in
     let pair = between a.p a.end in
     c.spread.ensures
-    ∙ ap (λ (k : ℕ). spread 8 (a.p + 1) 0 pair (between (a.end + 1) k) pair) c.end_of_lem.ensures.0
+    ∙ ap (λ (k : ℕ). spread 8 (a.p + 1) 0 pair (between (a.end + 1) k) pair) c.end_of-third.ensures.value
     ∙ pair-letter end_of a.s.now a.p a.mid a.end c.byte_at-head.result c.byte_at-head.ensures Letter.H
     c.if-head-eq-H.true
 
@@ -55,7 +55,7 @@ returns-then-head-eq-A c =
     let end_of = listed a.ends.now in
     let pair = between a.p a.end in
     c.spread-then-head-eq-A.ensures
-    ∙ ap (λ (k : ℕ). spread 9 a.p (byte Letter.A) pair (between (a.end + 1) k) nothing) c.end_of_lem.ensures.0
+    ∙ ap (λ (k : ℕ). spread 9 a.p (byte Letter.A) pair (between (a.end + 1) k) nothing) c.end_of-third.ensures.value
     ∙ pair-letter end_of a.s.now a.p a.mid a.end c.byte_at-head.result c.byte_at-head.ensures Letter.A
     c.if-head-eq-A.true
 
@@ -65,7 +65,7 @@ returns-then-head-eq-B c =
     let end_of = listed a.ends.now in
     let pair = between a.p a.end in
     c.spread-then-head-eq-B.ensures
-    ∙ ap (λ (k : ℕ). spread 11 a.p (byte Letter.B) pair (between (a.end + 1) k) pair) c.end_of_lem.ensures.0
+    ∙ ap (λ (k : ℕ). spread 11 a.p (byte Letter.B) pair (between (a.end + 1) k) pair) c.end_of-third.ensures.value
     ∙ pair-letter end_of a.s.now a.p a.mid a.end c.byte_at-head.result c.byte_at-head.ensures Letter.B
     c.if-head-eq-B.true
 

@@ -44,7 +44,7 @@ returns-then-head-eq-A c =
     let a = c.args in
     let end_of = listed a.ends.now in
     c.entered.ensures
-    ∙ closure_of_lem end_of a.s.now a.p c.end_of_lem.result c.end_of.result c.end_of_lem.ensures.0
+    ∙ closure_of_lem end_of a.s.now a.p c.end_of-end.result c.end_of.result c.end_of-end.ensures.value
     c.end_of.ensures.value
     ∙ rewrite-letter end_of a.s.now a.p c.byte_at-head.result c.byte_at-head.ensures Letter.A c.if-head-eq-A.true
 

@@ -11,7 +11,7 @@ returns c =
     let q = c.cut-2.ensures in
     same_unique
     c.same.result
-    (part a.a-from a.a-to a.a.now)
-    (part a.b-from a.b-to a.b.now)
+    (part a.a_from a.a_to a.a.now)
+    (part a.b_from a.b_to a.b.now)
     (λ e. sym p ∙ c.same.ensures.0 e ∙ q)
     (λ e. c.same.ensures.1 (p ∙ e ∙ sym q))

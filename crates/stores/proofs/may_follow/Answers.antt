@@ -32,7 +32,7 @@ returns c =
     let a = c.args in
     let cut-is = c.cut-result.ensures in
     let print-is = c.fingerprint-print.ensures ∙ ap print_of cut-is in
-    ap (λ (n : ℕ). eqb n 0) (c.number_of_lem.ensures ∙ ap₂ (number_in a.count a.used a.store.now) cut-is print-is)
+    ap (λ (n : ℕ). eqb n 0) (c.number_of.ensures ∙ ap₂ (number_in a.count a.used a.store.now) cut-is print-is)
     ∙ print-agrees a.count a.used a.size a.store.now c.if-used-size.false c.requires.1
     (ap is_result (sym cut-is) ∙ sym c.is_result.ensures ∙ not-false _ c.if-not-is_result.false)
     (sym c.word_at.ensures ∙ c.if-word_at-print.false ∙ print-is)

@@ -1,0 +1,13 @@
+-- `fields::stop_from` meets its contract. The loop's invariant: the first stop from `at` on is that from `from` on. The measure is what is
+-- left of the file.
+use Prim.Native.Nat.{◌-◌}
+use mathlib.Core.Path.{◌≡◌}
+use lib.ListN.{length}
+use Rattle.fields.specs.Fields.{stop_at}
+use Rattle.fields.proofs.stop_from.Given as goal
+
+abbrev pub invariant-loop-at : goal.invariant-loop-at
+invariant-loop-at l = stop_at l.file l.at ≡ stop_at l.file l.from
+
+abbrev pub decreases-loop-at : goal.decreases-loop-at
+decreases-loop-at l = length l.file - l.at

@@ -1,0 +1,20 @@
+-- `joining::place` meets its contract: only what reading refuses has a place.
+-- what is not `Unread` has no place
+use mathlib.Core.Path.{◌≡◌, refl}
+use mathlib.Core.List.{[], ◌∷◌}
+use types.Run.{OneOf, miss}
+use denote.Enum.Declared.{tag_of}
+use Rattle.reading.specs.Reply.{place_in}
+use Rattle.joining.specs.Answer.{answer_of}
+use Rattle.joining.specs.declared.Joining.{Joining}
+use Rattle.joining.specs.declared.Joining.TheVariants.{Unread, TooLarge, Joined}
+use Rattle.joining.specs.contracts.Joining.{the_type}
+use Rattle.joining.proofs.place.Goals as goal
+
+no_place : (a : Joining) → OneOf (1 ∷ 2 ∷ []) (tag_of the_type a) → 0 ≡ place_in (answer_of a)
+no_place (Unread reading) k = absurd (miss (1 ∷ 2 ∷ []) 0 tt k)
+no_place TooLarge k = refl
+no_place (Joined size) k = refl
+
+pub returns-in_default : goal.returns-in_default
+returns-in_default c = no_place c.args.answer c.in_default.is
