@@ -3,14 +3,13 @@ use mathlib.Core.List.{List, ◌++◌, append-nil}
 use Prim.Native.Nat.{ℕ, ◌+◌, ◌-◌}
 use native.Mathlib.Nat.{sub_self}
 use native.Mathlib.Omega.{arith}
-use lib.ListN.{length, take, drop, replicate, length-set, length-replicate, get_or-replicate, drop_of_length-le}
+use lib.ListN.{length, take, drop, length-set, length-replicate, get_or-replicate, drop_of_length-le}
 use lib.Seq.{paste, paste-zero, take_all}
 use Rattle.slices.proofs.Put.{paste-turn}
+use Rattle.filling.proofs.zero_from.Invariants.{zeros}
 use Rattle.filling.proofs.zero_from.Goals as goal
 
-abbrev zeros : List ℕ → ℕ → List ℕ
-zeros d at = replicate (length d - at) 0
-
+-- all the zeros pasted in
 pasted : (d : List ℕ) (at n : ℕ) → n ≡ length d - at → paste d at (zeros d at) n ≡ take at d ++ zeros d at
 pasted d at n e =
     ap (λ (l : List ℕ). take at d ++ l ++ drop (at + n) d) (take_all n (zeros d at) (omega (arith, length-replicate {A = ℕ} (length d - at) 0)))
