@@ -10,7 +10,7 @@ returns c =
     let a = c.args in
     record {
       stored = λ short fits.
-          subst (λ (n : ℕ). Stored a.t1.now a.at n a.ends.now.now c.part_end.new.ends.now) c.part_end.ensures.0
+          subst (λ (n : ℕ). Stored a.s.now a.at n a.ends.now.now c.part_end.new.ends.now) c.part_end.ensures.0
           c.part_end.ensures.1;
       too_long = λ long. absurd (omega arith);
       too_short = λ short. absurd (omega arith);
