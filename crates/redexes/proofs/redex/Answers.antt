@@ -1,4 +1,3 @@
-use Prim.Native.Nat.{◌-◌}
 use native.Mathlib.Omega.{arith}
 use Rattle.redexes.specs.Moves.{Leads}
 use Rattle.redexes.proofs.Moves.{move-within, move-past}
