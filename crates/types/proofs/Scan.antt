@@ -91,8 +91,8 @@ sign (suc k) at parts s h owes p e = rw (add-one, p) (sym (at_byte k at s h ∙ 
         (o : Option Sign) → (parts_of_sign o ≡ 3 → ⊥) →
         behind_sign o k (λ n. behind_simple n (drop (suc at) s)) ≡ behind_simple (suc k - 1 + parts_of_sign o) (drop (suc at) s)
     go none e = absurd (e refl)
-    go (some (Sign.name a)) e = ap (λ (n : ℕ). behind_simple n (drop (suc at) s)) (omega arith)
-    go (some Sign.arrow) e = ap (λ (n : ℕ). behind_simple n (drop (suc at) s)) (omega arith)
+    go (some (Sign.name a)) e = ap (λ (n : ℕ). behind_simple n (drop (suc at) s)) {x = k} (omega arith)
+    go (some Sign.arrow) e = ap (λ (n : ℕ). behind_simple n (drop (suc at) s)) {x = suc (suc k)} (omega arith)
     go (some Sign.bind) e = absurd (e refl)
     go (some Sign.empty) e = absurd (e refl)
 
