@@ -1,4 +1,3 @@
-use Prim.Native.Nat.{◌-◌}
 use native.Mathlib.Omega.{arith}
 use Rattle.tallies.proofs.Sums.{adds_start, adds-few, adds-next, adds-all}
 use Rattle.tallies.proofs.added.Goals as goal
