@@ -1,6 +1,6 @@
 -- `numerals::write_digits` meets its contract. The invariant: with the digits of the number that is left put in front, `dst` is what it is
 -- to be. The measure is the number that is left.
-use Prim.Native.Nat.{◌+◌, ◌-◌, ◌≤◌}
+use Prim.Native.Nat.{◌+◌, ◌≤◌}
 use mathlib.Core.Path.{◌≡◌}
 use lib.ListN.{length}
 use Rattle.slices.specs.Numeral.{decimal}
