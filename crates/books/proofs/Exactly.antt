@@ -231,6 +231,7 @@ finished-result {lines = l ∷ earlier} {results = results} {name = name} {v = v
       λ u other turned. (normal-turn other normal).0 (turn_trans (turn-sym turned) turns),
       (found_exactly t v).0 (normal, turns),
     )
+finished-result {lines = []} fuel area r f = elim f [ ]
 
 -- the same of a call in the relation
 played-result :

@@ -1,5 +1,5 @@
 -- The lines of a book, as trees and as text (REQUIREMENTS, Books).
-use Rattle.std.specs.Prelude.{ℕ, suc, cond, List, [], ◌∷◌, ◌++◌, take, drop}
+use Rattle.std.specs.Prelude.{ℕ, suc, cond, List, ◌∷◌, ◌++◌, take, drop}
 use Rattle.std.proofs.Math.Option.{Option, none, some}
 use Rattle.slices.specs.Find.{index_of}
 use Rattle.slices.specs.Split.{tab}

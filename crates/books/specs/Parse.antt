@@ -1,6 +1,6 @@
 -- The piece that bytes are the text of, as a function on any bytes (REQUIREMENTS, Books): what `piece_text` undoes; proofs/Spelling.antt shows
 -- that it does. It goes from left to right, with a number of pieces still owed, and gives as many pieces as were owed.
-use Rattle.std.specs.Prelude.{ℕ, zero, suc, Bool, cond, ◌&&◌, List, [], ◌∷◌, ◌++◌, eqb, leb, ltb, length}
+use Rattle.std.specs.Prelude.{ℕ, zero, suc, cond, ◌&&◌, List, [], ◌∷◌, ◌++◌, eqb, leb, ltb, length}
 use Rattle.std.proofs.Math.Option.{Option, none, some}
 use Rattle.calculus.specs.Letter.{Letter, letter_of, owed}
 use Rattle.books.specs.Name.{name_limit, is_small}

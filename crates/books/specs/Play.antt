@@ -1,8 +1,8 @@
 -- What becomes of the lines of a book (REQUIREMENTS, Books), as a function and as a relation; proofs/Plays.antt shows that they agree. Results
 -- are written as a list with the last in front, as lines are.
-use Rattle.std.specs.Prelude.{ℕ, suc, ◌+◌, ◌<◌, ◌≤◌, ◌≡◌, Bool, true, false, cond, ltb, length}
-use mathlib.Core.List.{List, [], ◌∷◌, ◌++◌, Memᴰ}
-use Rattle.calculus.specs.Term.{Term, text, size}
+use Rattle.std.specs.Prelude.{ℕ, suc, ◌+◌, ◌<◌, ◌≤◌, ◌≡◌, cond, ltb, length}
+use mathlib.Core.List.{List, [], ◌∷◌, Memᴰ}
+use Rattle.calculus.specs.Term.{Term, size}
 use Rattle.calculus.specs.Run.{Outcome, Run, run, Runs, outcome, reached}
 use Rattle.slices.specs.Same.{same}
 use Rattle.books.specs.Piece.{Replaced, replaced}

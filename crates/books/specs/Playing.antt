@@ -1,13 +1,13 @@
 -- What a call with a book answers and leaves in the areas and the store, for any call (REQUIREMENTS, Books).
-use Rattle.std.specs.Prelude.{ℕ, suc, Bool, ◌||◌, List, [], ◌∷◌, ◌++◌, ltb, length, drop, replicate}
+use Rattle.std.specs.Prelude.{ℕ, suc, ◌||◌, List, [], ◌∷◌, ◌++◌, ltb, length, drop, replicate}
 use Rattle.calculus.specs.Limits.{area_limit, fuel_limit}
-use Rattle.calculus.specs.Term.{Term, size}
+use Rattle.calculus.specs.Term.{size}
 use Rattle.calculus.specs.Run.{Outcome}
 use Rattle.reading.specs.Reply.{Reply, refuse_if}
 use Rattle.reading.specs.Area.{holding, cleared}
 use Rattle.books.specs.Line.{Line}
 use Rattle.books.specs.Book.{book_of}
-use Rattle.books.specs.Play.{store_size, Result, term_in, Play, play}
+use Rattle.books.specs.Play.{store_size, term_in, Play, play}
 
 -- the outcome, the line, and the size of the result, 0 where there is none
 pub data Played : Type 0 where
