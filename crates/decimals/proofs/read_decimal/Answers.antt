@@ -1,5 +1,4 @@
 use mathlib.Core.Path.{refl, ◌∙◌}
-use Prim.Native.Nat.{◌-◌}
 use native.Mathlib.Omega.{arith}
 use Rattle.decimals.proofs.Parsing.{fed-turn, fed-end}
 use Rattle.decimals.proofs.read_decimal.Goals as goal
