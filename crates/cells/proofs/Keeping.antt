@@ -52,7 +52,7 @@ module _ {cells cells' : List ℕ} {top top' : ℕ} (higher : top ≤ top') (kep
   pending-kept (Pending.more c before s rest) = Pending.more (cell-kept c) before (stands-kept s) (pending-kept rest)
 
   -- so are the frames
-  pub chain-kept : {i : ℕ} {terms : List Term} {frames : List Frame} → Chain cells top terms i frames → Chain cells' top' terms i frames
+  pub chain-kept : {terms : List Term} {i : ℕ} {frames : List Frame} → Chain cells top terms i frames → Chain cells' top' terms i frames
   chain-kept (Chain.none p) = Chain.none (pending-kept p)
   chain-kept (Chain.argument c before s rest) = Chain.argument (cell-kept c) before (stands-kept s) (chain-kept rest)
   chain-kept (Chain.function c before s rest) = Chain.function (cell-kept c) before (stands-kept s) (chain-kept rest)

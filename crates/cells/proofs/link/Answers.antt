@@ -1,7 +1,6 @@
 -- `cells::link` meets its contract: what is written is what was packed.
 use mathlib.Core.Path.{ap}
 use lib.ListN.{set}
-use Rattle.cells.specs.Cell.{packed}
 use Rattle.cells.proofs.link.Goals as goal
 
 pub returns : goal.returns
