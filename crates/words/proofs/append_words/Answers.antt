@@ -1,4 +1,3 @@
-use Prim.Native.Nat.{◌-◌}
 use native.Mathlib.Omega.{arith}
 use Rattle.words.proofs.Writing.{words-none, so-start, so-next, so-all}
 use Rattle.words.proofs.append_words.Goals as goal
