@@ -41,7 +41,7 @@ loop-at-preserved c =
           c.loop-at.invariant.2
           c.load_letter.new.cells
           left
-          (c.load_letter.ensures.1 (items (drop c.loop-at.at a.s.now)) now),
+          (c.load_letter.ensures.stacked (items (drop c.loop-at.at a.s.now)) now),
       search rules,
     )
 
