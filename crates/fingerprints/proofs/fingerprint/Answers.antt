@@ -1,4 +1,4 @@
-use Rattle.std.proofs.Common.{◌-◌, ◌∙◌, arith}
+use Rattle.std.proofs.Common.{◌∙◌, arith}
 use Rattle.fingerprints.proofs.Printing.{print-start, print-turn, print-end}
 use Rattle.fingerprints.proofs.fingerprint.Goals as goal
 
@@ -12,7 +12,7 @@ pub loop-at-preserved : goal.loop-at-preserved
 loop-at-preserved c = (
   omega arith,
   print-turn c.args.bytes.now c.loop-at.at c.loop-at.value c.times_31.result c.wrapping_add_u32-value.result
-      c.loop-at-test.true c.times_31.ensures c.wrapping_add_u32-value.ensures
+      c.loop-at-test.true c.times_31.ensures c.wrapping_add_u32-value.ensures.value
       ∙ c.loop-at.invariant.1,
 )
 
