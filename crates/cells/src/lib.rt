@@ -70,7 +70,7 @@ pub fn node(cells: &mut [u64], top: usize, letter: u8, first: usize, second: usi
 // Writes a cell of the list at the top: its kind, its term, the rest of the list.
 pub fn link(cells: &mut [u64], top: usize, kind: u8, term: usize, rest: usize)
     requires free { Free cells.old top }
-    requires term_lt_cell_limit { (term < cell_limit) × (rest < cell_limit) }
+    requires short { (term < cell_limit) × (rest < cell_limit) }
     ensures { cells.new ≡ set cells.old top (cell.packed kind term rest 0) }
 {
     cells[top] = packed(kind, term, rest, 0);

@@ -84,7 +84,7 @@ pub fn emit(cells: &mut [u64], area: &mut [u8], place: Place) -> Place
 // The part in focus with the innermost application around it, as one part.
 fn close_one(cells: &mut [u64], place: Place) -> Place
     requires closable { Closable cells.old place.top place.cur place.list }
-    requires not_letter_in { ¬ (letter_in (get_or cells.old place.list 0) ≡ pending_kind) }
+    requires framed { ¬ (letter_in (get_or cells.old place.list 0) ≡ pending_kind) }
     ensures closed { Closed cells.old place.top place.cur place.list cells.new result.top result.cur result.list }
     ensures nearer { (result.list < place.list) × (result.written ≡ place.written) }
 {

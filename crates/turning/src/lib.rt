@@ -80,7 +80,7 @@ fn halted(st: State) -> State
 // The part at `cur` comes into focus; what it is a part of goes into the list.
 fn descend(cells: &mut [u64], st: State, kind: u8, term: usize, rest: usize, cur: usize) -> State
     requires free { Free cells.old st.place.top }
-    requires term_lt_cell_limit { (term < cell_limit) × (rest < cell_limit) }
+    requires short { (term < cell_limit) × (rest < cell_limit) }
     ensures linked { cells.new ≡ set cells.old st.place.top (packed kind term rest 0) }
     ensures value { result ≡ descended st cur }
 {

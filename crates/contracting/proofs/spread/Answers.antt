@@ -13,22 +13,22 @@ bounds-cells-argument c = argument-inside c.requires.contractible
 
 pub node-requires : goal.node-requires
 node-requires c =
-    spread-first c.requires.contractible c.requires.function_value c.requires.1.1 c.first_in-first.ensures
+    spread-first c.requires.contractible c.requires.function_value c.requires.spreads c.first_in-first.ensures
     c.second_in-second.ensures
 
 pub node-requires-2 : goal.node-requires-2
 node-requires-2 c =
     let can =
-    spread-second c.requires.contractible c.requires.function_value c.requires.1.1 c.first_in-first.ensures c.second_in-second.ensures
+    spread-second c.requires.contractible c.requires.function_value c.requires.spreads c.first_in-first.ensures c.second_in-second.ensures
     c.node.ensures in
     omega (arith, can)
 
 pub node-requires-3 : goal.node-requires-3
 node-requires-3 c =
-    spread-third c.requires.contractible c.requires.function_value c.requires.1.1 c.first_in-first.ensures c.second_in-second.ensures
+    spread-third c.requires.contractible c.requires.function_value c.requires.spreads c.first_in-first.ensures c.second_in-second.ensures
     c.node.ensures c.node-2.ensures
 
 pub returns : goal.returns
 returns c =
-    spread-gives c.requires.contractible c.requires.function_value c.requires.1.1 c.first_in-first.ensures c.second_in-second.ensures
+    spread-gives c.requires.contractible c.requires.function_value c.requires.spreads c.first_in-first.ensures c.second_in-second.ensures
     c.node.ensures c.node-2.ensures c.node-3.ensures

@@ -21,7 +21,7 @@ pub bounds-cells-function : goal.bounds-cells-function
 bounds-cells-function c = function-inside c.requires.contractible
 
 pub returns-then-letter-eq-J : goal.returns-then-letter-eq-J
-returns-then-letter-eq-J c = rule-6-gives c.requires.1 c.first_in-result.ensures (sym c.letter_in-letter.ensures ∙ c.if-letter-eq-J.true)
+returns-then-letter-eq-J c = rule-6-gives c.requires.function_value c.first_in-result.ensures (sym c.letter_in-letter.ensures ∙ c.if-letter-eq-J.true)
 
 pub offset_bounds-cells-function-then-letter-eq-R : goal.offset_bounds-cells-function-then-letter-eq-R
 offset_bounds-cells-function-then-letter-eq-R c = let h = function-inside c.requires.contractible in search rules
@@ -32,20 +32,20 @@ bounds-cells-function-then-letter-eq-R c = function-inside c.requires.contractib
 pub node-requires : goal.node-requires
 node-requires c =
     let can =
-    rule-7-first c.requires.contractible c.requires.1 c.second_in-substitution.ensures c.first_in-index.ensures
+    rule-7-first c.requires.contractible c.requires.function_value c.second_in-substitution.ensures c.first_in-index.ensures
     (sym c.letter_in-letter.ensures ∙ c.if-letter-eq-R.true) in
     omega (arith, can)
 
 pub returns-then-letter-eq-R : goal.returns-then-letter-eq-R
 returns-then-letter-eq-R c =
-    rule-7-gives c.requires.contractible c.requires.1 c.second_in-substitution.ensures c.first_in-index.ensures
+    rule-7-gives c.requires.contractible c.requires.function_value c.second_in-substitution.ensures c.first_in-index.ensures
     (sym c.letter_in-letter.ensures ∙ c.if-letter-eq-R.true) c.node.ensures
 
 pub spread-requires : goal.spread-requires
 spread-requires c =
     record {
       contractible = c.requires.contractible;
-      function_value = c.requires.1;
+      function_value = c.requires.function_value;
       spreads = spreads_8 c.letter_in-letter.ensures c.if-letter-eq-H.true;
     }
 
@@ -53,29 +53,29 @@ pub spread-requires-then-letter-eq-B : goal.spread-requires-then-letter-eq-B
 spread-requires-then-letter-eq-B c =
     record {
       contractible = c.requires.contractible;
-      function_value = c.requires.1;
+      function_value = c.requires.function_value;
       spreads = spreads_11 c.letter_in-letter.ensures c.if-letter-eq-B.true;
     }
 
 pub node-requires-then-letter-eq-A : goal.node-requires-then-letter-eq-A
 node-requires-then-letter-eq-A c =
-    rule-9-first c.requires.contractible c.requires.1 c.first_in-environment.ensures c.second_in-body.ensures
+    rule-9-first c.requires.contractible c.requires.function_value c.first_in-environment.ensures c.second_in-body.ensures
     (sym c.letter_in-letter.ensures ∙ c.if-letter-eq-A.true)
 
 pub node-requires-then-letter-eq-A-2 : goal.node-requires-then-letter-eq-A-2
 node-requires-then-letter-eq-A-2 c =
-    rule-9-second c.requires.contractible c.requires.1 c.first_in-environment.ensures c.second_in-body.ensures
+    rule-9-second c.requires.contractible c.requires.function_value c.first_in-environment.ensures c.second_in-body.ensures
     (sym c.letter_in-letter.ensures ∙ c.if-letter-eq-A.true) c.node-then-letter-eq-A.ensures
 
 pub returns-then-letter-eq-A : goal.returns-then-letter-eq-A
 returns-then-letter-eq-A c =
-    rule-9-gives c.requires.contractible c.requires.1 c.first_in-environment.ensures c.second_in-body.ensures
+    rule-9-gives c.requires.contractible c.requires.function_value c.first_in-environment.ensures c.second_in-body.ensures
     (sym c.letter_in-letter.ensures ∙ c.if-letter-eq-A.true) c.node-then-letter-eq-A.ensures c.node-then-letter-eq-A-2.ensures
 
 pub returns-then-letter-eq-I : goal.returns-then-letter-eq-I
-returns-then-letter-eq-I c = rule-10-gives c.requires.1 (sym c.letter_in-letter.ensures ∙ c.if-letter-eq-I.true)
+returns-then-letter-eq-I c = rule-10-gives c.requires.function_value (sym c.letter_in-letter.ensures ∙ c.if-letter-eq-I.true)
 
 pub returns-else-letter-eq-I : goal.returns-else-letter-eq-I
 returns-else-letter-eq-I c =
-    rule-13-gives c.requires.1 c.letter_in-letter.ensures c.if-letter-eq-J.false c.if-letter-eq-R.false c.if-letter-eq-H.false
+    rule-13-gives c.requires.function_value c.letter_in-letter.ensures c.if-letter-eq-J.false c.if-letter-eq-R.false c.if-letter-eq-H.false
     c.if-letter-eq-B.false c.if-letter-eq-A.false c.if-letter-eq-I.false

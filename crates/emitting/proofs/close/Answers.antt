@@ -19,7 +19,7 @@ pub close_one-now-requires : goal.close_one-now-requires
 close_one-now-requires c =
     record {
       closable = c.loop-kind.invariant.1;
-      not_letter_in = λ e. c.loop-kind-test.true (c.loop-kind.invariant.2 ∙ e);
+      framed = λ e. c.loop-kind-test.true (c.loop-kind.invariant.2 ∙ e);
     }
 
 pub offset_bounds-cells-list-in-loop-kind : goal.offset_bounds-cells-list-in-loop-kind

@@ -29,14 +29,14 @@ returns-then-letter_in-eq-ARGUMENT c =
 pub node-requires-2 : goal.node-requires-2
 node-requires-2 c =
     let joins =
-    joinable-function c.requires.closable c.letter_in.result c.first_in-other.result c.second_in-rest.result c.letter_in.ensures c.first_in-other.ensures c.second_in-rest.ensures c.requires.1
+    joinable-function c.requires.closable c.letter_in.result c.first_in-other.result c.second_in-rest.result c.letter_in.ensures c.first_in-other.ensures c.second_in-rest.ensures c.requires.framed
     c.if-letter_in-eq-ARGUMENT.false in
     omega (arith, joins)
 
 pub returns : goal.returns
 returns c =
     let closed =
-    closed-function c.requires.closable c.letter_in.result c.first_in-other.result c.second_in-rest.result c.letter_in.ensures c.first_in-other.ensures c.second_in-rest.ensures c.requires.1
+    closed-function c.requires.closable c.letter_in.result c.first_in-other.result c.second_in-rest.result c.letter_in.ensures c.first_in-other.ensures c.second_in-rest.ensures c.requires.framed
     c.if-letter_in-eq-ARGUMENT.false c.node-2.new.cells c.node-2.ensures in
     record {
       closed = closed.0;

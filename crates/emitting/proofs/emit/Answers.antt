@@ -21,7 +21,7 @@ pub link-requires : goal.link-requires
 link-requires c =
     record {
       free = c.requires.room;
-      term_lt_cell_limit = (omega (arith, c.first_in-first.ensures, c.second_in-second.ensures), omega (arith, list_inside c.requires, c.requires.room.few));
+      short = (omega (arith, c.first_in-first.ensures, c.second_in-second.ensures), omega (arith, list_inside c.requires, c.requires.room.few));
     }
 
 pub returns-then-arity-eq2 : goal.returns-then-arity-eq2

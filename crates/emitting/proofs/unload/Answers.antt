@@ -9,7 +9,7 @@ close-now-requires c = unloadable-closable c.requires
 
 pub loop-left-init : goal.loop-left-init
 loop-left-init c =
-    let bare = c.close-now.ensures.1 in
+    let bare = c.close-now.ensures.bare in
     (left-start c.args.area.now c.close-now.ensures.closed bare.1 c.requires c.close-now.auto.cells bare.0, refl, refl)
 
 pub emit-now-requires : goal.emit-now-requires
@@ -23,7 +23,7 @@ loop-left-smaller c =
 pub loop-left-preserved : goal.loop-left-preserved
 loop-left-preserved c =
     let inv = c.loop-left.invariant in (
-      left-on inv.0 c.loop-left-test.true c.emit-now.ensures.emitted c.emit-now.ensures.1 c.emit-now.auto.cells c.emit-now.auto.area,
+      left-on inv.0 c.loop-left-test.true c.emit-now.ensures.emitted c.emit-now.ensures.bare c.emit-now.auto.cells c.emit-now.auto.area,
       c.emit-now.auto.cells ∙ inv.1,
       c.emit-now.auto.area ∙ inv.2,
     )

@@ -10,19 +10,19 @@ pub slice_bounds-load-end-2 : goal.slice_bounds-load-end-2
 slice_bounds-load-end-2 c = sym (length-take-le c.args.len c.args.area.now c.requires.runnable.within)
 
 pub load-requires : goal.load-requires
-load-requires c = loadable c.requires.runnable (usable_same (length-set c.args.cells.now 0 _) c.requires.1)
+load-requires c = loadable c.requires.runnable (usable_same (length-set c.args.cells.now 0 _) c.requires.usable)
 
 pub turns-st-requires : goal.turns-st-requires
-turns-st-requires c = startable c.requires.runnable c.requires.1 c.load.ensures.kept c.load.auto.cells c.load.ensures.1
+turns-st-requires c = startable c.requires.runnable c.requires.usable c.load.ensures.kept c.load.auto.cells c.load.ensures.loaded
 
 pub unload-requires : goal.unload-requires
 unload-requires c =
-    unloadable c.requires.runnable c.requires.1 c.load.ensures.kept c.load.auto.cells c.load.ensures.1
+    unloadable c.requires.runnable c.requires.usable c.load.ensures.kept c.load.auto.cells c.load.ensures.loaded
     c.turns-st.ensures c.if-place.true c.turns-st.auto.cells c.turns-st.auto.area
 
 pub ended-requires : goal.ended-requires
 ended-requires c =
-    ended-few c.requires.runnable c.requires.1 c.load.ensures.kept c.load.auto.cells c.load.ensures.1
+    ended-few c.requires.runnable c.requires.usable c.load.ensures.kept c.load.auto.cells c.load.ensures.loaded
     c.turns-st.ensures
 
 pub shape_of-cells-then-place : goal.shape_of-cells-then-place
@@ -34,12 +34,12 @@ returns-then-place c =
     (Advanced c.args.area.now p.term p.used c.args.most c.unload.new.area
     c.turns-st.new.counts)
     (sym c.ended.ensures)
-    (advanced-left p c.requires.1 c.load.ensures.kept c.load.auto.cells c.load.ensures.1
+    (advanced-left p c.requires.usable c.load.ensures.kept c.load.auto.cells c.load.ensures.loaded
     c.turns-st.ensures c.if-place.true c.unload.new.area c.unload.ensures)
 
 pub ended-requires-2 : goal.ended-requires-2
 ended-requires-2 c =
-    ended-few c.requires.runnable c.requires.1 c.load.ensures.kept c.load.auto.cells c.load.ensures.1
+    ended-few c.requires.runnable c.requires.usable c.load.ensures.kept c.load.auto.cells c.load.ensures.loaded
     c.turns-st.ensures
 
 pub shape_of-cells : goal.shape_of-cells
@@ -51,5 +51,5 @@ returns c =
     (Advanced c.args.area.now p.term p.used c.args.most c.turns-st.new.area
     c.turns-st.new.counts)
     (sym c.ended-2.ensures)
-    (advanced-end p c.requires.1 c.load.ensures.kept c.load.auto.cells c.load.ensures.1
+    (advanced-end p c.requires.usable c.load.ensures.kept c.load.auto.cells c.load.ensures.loaded
     c.turns-st.ensures c.if-place.false)

@@ -15,11 +15,11 @@ pub descend-requires : goal.descend-requires
 descend-requires c =
     record {
       free = (focus-free c.requires).0;
-      term_lt_cell_limit = ((focus-free c.requires).2, (focus-free c.requires).3);
+      short = ((focus-free c.requires).2, (focus-free c.requires).3);
     }
 
 pub returns-then-letter_in-eq-STOP : goal.returns-then-letter_in-eq-STOP
-returns-then-letter_in-eq-STOP c = λ p. turned-function p c.descend.ensures.linked c.descend.ensures.1
+returns-then-letter_in-eq-STOP c = λ p. turned-function p c.descend.ensures.linked c.descend.ensures.value
 
 pub is_pair_on_application-requires : goal.is_pair_on_application-requires
 is_pair_on_application-requires c = ((focus-inside c.requires).0, (focus-inside c.requires).1)
@@ -28,13 +28,13 @@ pub descend-requires-then-is_pair_on_application : goal.descend-requires-then-is
 descend-requires-then-is_pair_on_application c =
     record {
       free = (focus-free c.requires).0;
-      term_lt_cell_limit = ((focus-free c.requires).1, (focus-free c.requires).3);
+      short = ((focus-free c.requires).1, (focus-free c.requires).3);
     }
 
 pub returns-then-is_pair_on_application : goal.returns-then-is_pair_on_application
 returns-then-is_pair_on_application c =
     λ p. turned-argument p (both_taken c.if-is_pair_on_application.true c.is_pair_on_application.ensures).0
-    c.descend-then-is_pair_on_application.ensures.linked c.descend-then-is_pair_on_application.ensures.1
+    c.descend-then-is_pair_on_application.ensures.linked c.descend-then-is_pair_on_application.ensures.value
 
 pub returns-then-st-eq0 : goal.returns-then-st-eq0
 returns-then-st-eq0 c = λ p. turned-spent p c.halted.ensures

@@ -29,7 +29,7 @@ pub bounds-cells-result : goal.bounds-cells-result
 bounds-cells-result c = omega (arith, fire-result c.requires c.contract-c.ensures c.requires.appliable, c.contract-c.auto.cells)
 
 pub overflow_add-size : goal.overflow_add-size
-overflow_add-size c = omega (arith, fire-limited c.requires, c.size_in-3.ensures.1)
+overflow_add-size c = omega (arith, fire-limited c.requires, c.size_in-3.ensures.bounded)
 
 pub overflow_sub-size : goal.overflow_sub-size
 overflow_sub-size c = omega (arith, fire-small c.requires, c.size_in.ensures.value, c.size_in-2.ensures.value)

@@ -13,7 +13,7 @@ pub returns-then-is_final : goal.returns-then-is_final
 returns-then-is_final c =
     λ p. turned-shed p c.shed.new.cells c.shed.new.area c.shed.result c.shed.ensures.emitted
     c.shed.auto.area
-    (both_taken c.if-is_final.true c.is_final.ensures).0 c.shed.ensures.1
+    (both_taken c.if-is_final.true c.is_final.ensures).0 c.shed.ensures.others
 
 pub application-f-requires : goal.application-f-requires
 application-f-requires c = turn-focusable c.requires (both_left c.if-is_final.false c.is_final.ensures)
