@@ -6,7 +6,7 @@ use mathlib.Core.Path.{◌≡◌, refl, sym, ◌∙◌, ap, ap₂}
 use mathlib.Core.List.{List, [], ◌∷◌, Memᴰ}
 use lib.ListN.{length, get_or, drop}
 use lib.Seq.{drop-cons}
-use Rattle.books.specs.Name.{first_small, last_small, name_limit, IsName}
+use Rattle.books.specs.Name.{first_small, last_small, IsName}
 use Rattle.book_names.specs.Key.{key_of}
 
 -- ---- the loop

@@ -1,5 +1,5 @@
 -- `book_names::key` meets its contract. The loop's invariant: the number is that of the letters from i on. The measure is i.
-use Prim.Native.Nat.{◌≤◌, ◌-◌}
+use Prim.Native.Nat.{◌≤◌}
 use mathlib.Core.Path.{◌≡◌}
 use lib.ListN.{length, drop}
 use Rattle.book_names.specs.Key.{key_of}
