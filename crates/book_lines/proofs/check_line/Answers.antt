@@ -1,7 +1,6 @@
 -- `book_lines::check_line` meets its contract: each of its four answers is a law of what is wrong with a line.
 use mathlib.Core.Path.{refl, sym, ◌∙◌}
 use native.Mathlib.Omega.{arith}
-use borrow.Author.Tests.{not-true, not-false}
 use Rattle.slices.specs.Split.{tab}
 use Rattle.slices.proofs.Finding.{index_within}
 use Rattle.book_lines.proofs.Judging.{malformed, name-given, name_unknown, sound}
@@ -15,7 +14,7 @@ pub returns-then-not-line : goal.returns-then-not-line
 returns-then-not-line c =
     malformed c.args.body.now c.args.keys.now c.find-tab.result c.cut-name.result.now
     c.cut-piece.result.now c.find-tab.ensures c.cut-name.ensures c.cut-piece.ensures c.is_line-line.result
-    c.is_line-line.ensures (not-true _ c.if-not-line.true)
+    c.is_line-line.ensures c.if-not-line.true
 
 pub returns-then-given : goal.returns-then-given
 returns-then-given c =
@@ -23,7 +22,7 @@ returns-then-given c =
     let told = known name name c.args.keys.now c.is_in-given.ensures c.key.ensures refl in
     name-given c.args.body.now c.args.keys.now c.find-tab.result name
     c.cut-piece.result.now c.find-tab.ensures c.cut-name.ensures c.cut-piece.ensures c.is_line-line.result
-    c.is_line-line.ensures (not-false _ c.if-not-line.false)
+    c.is_line-line.ensures c.if-not-line.false
     (told ∙ c.if-given.true)
 
 pub returns-then-not-used : goal.returns-then-not-used
@@ -32,9 +31,9 @@ returns-then-not-used c =
     let told = known name name c.args.keys.now c.is_in-given.ensures c.key.ensures refl in
     name_unknown c.args.body.now c.args.keys.now c.find-tab.result name
     c.cut-piece.result.now c.find-tab.ensures c.cut-name.ensures c.cut-piece.ensures c.is_line-line.result
-    c.is_line-line.ensures (not-false _ c.if-not-line.false)
+    c.is_line-line.ensures c.if-not-line.false
     (told ∙ c.if-given.false)
-    (sym c.uses_given-used.ensures ∙ not-true _ c.if-not-used.true)
+    (sym c.uses_given-used.ensures ∙ c.if-not-used.true)
 
 pub returns : goal.returns
 returns c =
@@ -42,6 +41,6 @@ returns c =
     let told = known name name c.args.keys.now c.is_in-given.ensures c.key.ensures refl in
     sound c.args.body.now c.args.keys.now c.find-tab.result name c.cut-piece.result.now
     c.find-tab.ensures c.cut-name.ensures c.cut-piece.ensures c.is_line-line.result c.is_line-line.ensures
-    (not-false _ c.if-not-line.false)
+    c.if-not-line.false
     (told ∙ c.if-given.false)
-    (sym c.uses_given-used.ensures ∙ not-false _ c.if-not-used.false)
+    (sym c.uses_given-used.ensures ∙ c.if-not-used.false)

@@ -1,7 +1,5 @@
-use Prim.Native.Nat.{◌-◌}
 use mathlib.Core.Path.{sym, ◌∙◌}
 use native.Mathlib.Omega.{arith}
-use borrow.Author.Tests.{not-true, not-false}
 use Rattle.book_lines.proofs.Naming.{no_name, long-name, name-start, not-small, one-small, small-end}
 use Rattle.book_lines.proofs.is_name.Goals as goal
 
@@ -17,11 +15,11 @@ loop-at-init c = (omega arith, name-start c.args.s.now (omega (arith, c.if-s-eq0
 pub returns-then-not-is_small : goal.returns-then-not-is_small
 returns-then-not-is_small c =
     not-small c.args.s.now c.loop-at.at c.loop-at-test.true
-    (sym c.is_small.ensures ∙ not-true _ c.if-not-is_small.true) ∙ c.loop-at.invariant.1
+    (sym c.is_small.ensures ∙ c.if-not-is_small.true) ∙ c.loop-at.invariant.1
 
 pub loop-at-preserved : goal.loop-at-preserved
 loop-at-preserved c =
-    let small = sym c.is_small.ensures ∙ not-false _ c.if-not-is_small.false in
+    let small = sym c.is_small.ensures ∙ c.if-not-is_small.false in
     (omega arith, one-small c.args.s.now c.loop-at.at c.loop-at-test.true small ∙ c.loop-at.invariant.1)
 
 pub returns : goal.returns

@@ -1,7 +1,5 @@
-use Prim.Native.Nat.{◌-◌}
 use mathlib.Core.Path.{sym, ◌∙◌}
 use native.Mathlib.Omega.{arith}
-use borrow.Author.Tests.{not-true, not-false}
 use lib.ListN.{get_or}
 use Rattle.reading.proofs.Scan.{arity-few}
 use Rattle.book_lines.proofs.Scanning.{piece-start, nothing-owed, piece-end, no_letter, one-letter}
@@ -31,7 +29,7 @@ pub returns-then-not-is_name : goal.returns-then-not-is_name
 returns-then-not-is_name c =
     not-name c.loop-at.owed c.loop-at.at c.args.s.now c.loop-at-test.true c.if-owed-eq0.false
     c.find_from-end.result c.if-s-at-eq-OPEN.true c.find_from-end.ensures c.if-s-end.false
-    (sym c.is_name.ensures ∙ not-true _ c.if-not-is_name.true) ∙ c.loop-at.invariant.2
+    (sym c.is_name.ensures ∙ c.if-not-is_name.true) ∙ c.loop-at.invariant.2
 
 pub loop-at-smaller-then-s-at-eq-OPEN : goal.loop-at-smaller-then-s-at-eq-OPEN
 loop-at-smaller-then-s-at-eq-OPEN c = omega (arith, c.find_from-end.ensures)
@@ -39,7 +37,7 @@ loop-at-smaller-then-s-at-eq-OPEN c = omega (arith, c.find_from-end.ensures)
 pub loop-at-preserved-then-s-at-eq-OPEN : goal.loop-at-preserved-then-s-at-eq-OPEN
 loop-at-preserved-then-s-at-eq-OPEN c =
     let found = c.find_from-end.ensures in
-    let named = sym c.is_name.ensures ∙ not-false _ c.if-not-is_name.false in (
+    let named = sym c.is_name.ensures ∙ c.if-not-is_name.false in (
       omega arith,
       omega arith,
       one-use c.loop-at.owed c.loop-at.at c.args.s.now c.loop-at-test.true c.if-owed-eq0.false

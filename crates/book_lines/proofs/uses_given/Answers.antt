@@ -1,7 +1,6 @@
-use Prim.Native.Nat.{◌+◌, ◌-◌}
+use Prim.Native.Nat.{◌+◌}
 use mathlib.Core.Path.{◌∙◌}
 use native.Mathlib.Omega.{arith}
-use borrow.Author.Tests.{not-true, not-false}
 use Rattle.slices.specs.Part.{part}
 use Rattle.books.specs.Piece.{open_mark}
 use Rattle.book_lines.proofs.Using.{found_at, uses-start, uses-end, not-given, one-given, known}
@@ -23,7 +22,7 @@ returns-then-not-is_in c =
     let told = known c.cut.result.now (part (at + 1) end piece) keys c.is_in.ensures c.key.ensures
     c.cut.ensures in
     not-given at end piece keys within (c.loop-at.invariant.0 within) c.find_from-end.ensures
-    (told ∙ not-true _ c.if-not-is_in.true) ∙ c.loop-at.invariant.1
+    (told ∙ c.if-not-is_in.true) ∙ c.loop-at.invariant.1
 
 pub loop-at-smaller : goal.loop-at-smaller
 loop-at-smaller c = omega (arith, c.find_from-end.ensures, c.find_from-at-in-loop-at.ensures)
@@ -40,7 +39,7 @@ loop-at-preserved c =
     c.cut.ensures in (
       found_at open_mark end next piece c.find_from-at-in-loop-at.ensures,
       one-given at end piece keys within (c.loop-at.invariant.0 within) c.find_from-end.ensures next c.find_from-at-in-loop-at.ensures
-          (told ∙ not-false _ c.if-not-is_in.false)
+          (told ∙ c.if-not-is_in.false)
           ∙ c.loop-at.invariant.1,
     )
 
