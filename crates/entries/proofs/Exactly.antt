@@ -235,7 +235,7 @@ entry-refused {bytes = bytes} {number = number} {place = place} (EntersAs.unread
     listed (Refuses.at_place m low high) = Refuses.at_place m low high
 entry-refused (EntersAs.not-normal t long k d not) =
     (Refuses.at_zero (Memᴰ.tail (Memᴰ.tail (Memᴰ.head refl))) refl, refl)
-entry-refused (EntersAs.full t long k d normal missing full) =
+entry-refused (EntersAs.full t long k d _ missing full) =
     (Refuses.at_zero (Memᴰ.tail (Memᴰ.tail (Memᴰ.tail (Memᴰ.head refl)))) refl, refl)
 
 -- what an entry refuses is listed, and changes nothing
@@ -253,7 +253,7 @@ enters-behind (EntersAs.short h) = (refl, refl)
 enters-behind (EntersAs.no_catalogue long not) = (refl, refl)
 enters-behind (EntersAs.unread long k r) = (refl, refl)
 enters-behind (EntersAs.not-normal t long k d not) = (refl, refl)
-enters-behind (EntersAs.full t long k d normal missing full) = (refl, refl)
+enters-behind (EntersAs.full t long k d _ missing full) = (refl, refl)
 enters-behind (EntersAs.known t long k d normal numbered) = (refl, refl)
 enters-behind {store = store} (EntersAs.new {results = results} t long k d normal missing room) =
     let c = Catalogue.entered normal missing room k.catalogue in

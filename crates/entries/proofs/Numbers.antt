@@ -100,6 +100,7 @@ numbered-number {t} (Catalogue.entered {earlier = earlier} normal fresh room c) 
 numbered-number {t} (Catalogue.entered {t = u} {earlier = earlier} normal fresh room c) (Numbered.before h) =
     let member = numbered_member h in
     past_last t u earlier (λ e. fresh (subst (λ (v : Term). Memᴰ v earlier) e member)) ∙ numbered-number c h
+numbered-number Catalogue.empty x = elim x [ ]
 
 -- so one number
 pub numbered-one :

@@ -1,6 +1,6 @@
 -- Catalogues of results, and the numbers of the results (REQUIREMENTS, Catalogue). A catalogue is written as a list with the last result
 -- in front: a result's number is how many there were when it had been entered, and later ones do not change it.
-use Rattle.std.specs.Prelude.{ℕ, suc, ◌+◌, ◌<◌, ◌≤◌, Bool, true, false, cond, not, ◌&&◌, ltb, leb, eqb, length}
+use Rattle.std.specs.Prelude.{ℕ, suc, ◌+◌, ◌<◌, ◌≤◌, Bool, true, cond, not, ◌&&◌, ltb, leb, eqb, length}
 use mathlib.Core.List.{List, [], ◌∷◌, Memᴰ}
 use Rattle.calculus.specs.Term.{Term, text, size, Normal}
 use Rattle.slices.specs.Same.{same}

@@ -1,5 +1,5 @@
 -- The store of a catalogue: its bytes, and the catalogue that bytes are the store of (REQUIREMENTS, Catalogue).
-use Rattle.std.specs.Prelude.{ℕ, zero, suc, ◌+◌, ◌*◌, ◌-◌, ◌≡◌, cond, ◌&&◌, List, [], ◌∷◌, ◌++◌, length, take, drop, replicate}
+use Rattle.std.specs.Prelude.{ℕ, zero, suc, ◌*◌, ◌-◌, cond, ◌&&◌, List, [], ◌∷◌, ◌++◌, length, take, drop, replicate}
 use Rattle.std.proofs.Math.Option.{Option, none, some}
 use Rattle.calculus.specs.Term.{Term, text, size}
 use Rattle.calculus.specs.Parse.{term_of}
