@@ -1,4 +1,3 @@
-use Prim.Native.Nat.{◌-◌}
 use mathlib.Core.Path.{refl, ◌∙◌}
 use lib.ListN.{length}
 use Rattle.emitting.proofs.Rest.{unloadable-closable, stage-closed, left-start, left-emittable, left_less, left-on, left-none}
@@ -37,4 +36,4 @@ shape_of-area c = c.loop-left.invariant.2
 pub returns : goal.returns
 returns c =
     let closed = c.close-now.ensures in
-    λ t s. left-none c.loop-left.invariant.0 c.loop-left-test.false t (stage-closed c.args.area.now closed.0 closed.1.1 t s)
+    λ t s. left-none c.loop-left.invariant.0 c.loop-left-test.false t (stage-closed c.args.area.now closed.closed closed.bare.1 t s)
