@@ -50,6 +50,7 @@ small-texts n = texts-back (texts 1 n) (listed-text n)
 mapped_back : (ss : List (List ℕ)) (t : Term) → Memᴰ t (map term_in ss) → (s : List ℕ) × (t ≡ term_in s) × Memᴰ s ss
 mapped_back (s ∷ ss) t (Memᴰ.head e) = (s, e, Memᴰ.head refl)
 mapped_back (s ∷ ss) t (Memᴰ.tail m) = let (u, e, h) = mapped_back ss t m in (u, e, Memᴰ.tail h)
+mapped_back [] t x = elim x [ ]
 
 -- the list holds each small term, nothing else, in byte order
 pub each-small : (n : ℕ) → EachSmall n (small_terms n)
@@ -75,6 +76,7 @@ text-back (t ∷ ts) (u ∷ us) e = ap₂ (λ (x : Term) (xs : List Term). x ∷
 text_member : (ts : List Term) (s : List ℕ) → Memᴰ s (map text ts) → (t : Term) × (s ≡ text t) × Memᴰ t ts
 text_member (t ∷ ts) s (Memᴰ.head e) = (t, e, Memᴰ.head refl)
 text_member (t ∷ ts) s (Memᴰ.tail m) = let (u, e, h) = text_member ts s m in (u, e, Memᴰ.tail h)
+text_member [] s x = elim x [ ]
 
 -- two such lists are the same
 pub each_unique : (n : ℕ) (ts us : List Term) → EachSmall n ts → EachSmall n us → ts ≡ us

@@ -24,6 +24,7 @@ member (s ∷ ss) (suc i) h = Memᴰ.tail (member ss i (omega arith))
 pub index_of : (ss : List (List ℕ)) (s : List ℕ) → Memᴰ s ss → (i : ℕ) × (i < length ss) × (s ≡ get_or ss i [])
 index_of (u ∷ ss) s (Memᴰ.head e) = (0, omega arith, e)
 index_of (u ∷ ss) s (Memᴰ.tail m) = let (i, h, e) = index_of ss s m in (suc i, omega arith, e)
+index_of [] s x = elim x [ ]
 
 -- ---- byte order
 
@@ -97,6 +98,7 @@ Below b (l ∷ ls) = (b < byte l) × Below b ls
 below_all : (b : ℕ) (ls : List Letter) → Below b ls → (x : Letter) → Memᴰ x ls → b < byte x
 below_all b (l ∷ ls) (h, hs) x (Memᴰ.head e) = subst (λ (y : Letter). b < byte y) (sym e) h
 below_all b (l ∷ ls) (h, hs) x (Memᴰ.tail m) = below_all b ls hs x m
+below_all b [] _ x m = elim m [ ]
 
 abbrev AllBelow : List Letter → Type 0
 AllBelow [] = Unit

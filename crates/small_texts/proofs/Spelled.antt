@@ -45,6 +45,7 @@ led_on l (x ∷ ls) f s (Memᴰ.head e) m =
     Memᴰ.append_left (led ls f)
     (Memᴰ.cast (ap (λ (y : Letter). byte y ∷ s) e) (Memᴰ.map (λ (u : List ℕ). byte x ∷ u) (subst (λ (y : Letter). Memᴰ s (f y)) e m)))
 led_on l (x ∷ ls) f s (Memᴰ.tail h) m = Memᴰ.append_right (map (λ (u : List ℕ). byte x ∷ u) (f x)) (led_on l ls f s h m)
+led_on l [] f s x m = elim x [ ]
 
 -- how a letter is found among the letters
 ruleset among = (Memᴰ.head, Memᴰ.tail)
@@ -122,9 +123,11 @@ pub record Led (ls : List Letter) (f : Letter → List (List ℕ)) (s : List ℕ
 pub mapped : (b : ℕ) (ss : List (List ℕ)) (s : List ℕ) → Memᴰ s (map (λ u. b ∷ u) ss) → (u : List ℕ) × (s ≡ b ∷ u) × Memᴰ u ss
 mapped b (x ∷ ss) s (Memᴰ.head e) = (x, e, Memᴰ.head refl)
 mapped b (x ∷ ss) s (Memᴰ.tail m) = let (u, e, h) = mapped b ss s m in (u, e, Memᴰ.tail h)
+mapped b [] s x = elim x [ ]
 
 -- each of those texts has a first letter and something behind it
 pub led-back : (ls : List Letter) (f : Letter → List (List ℕ)) (s : List ℕ) → Memᴰ s (led ls f) → Led ls f s
+led-back [] f s m = elim m [ ]
 led-back (l ∷ ls) f s m =
     ⊎_elim here (λ (h : Memᴰ s (led ls f)). there (led-back ls f s h))
     (Memᴰ.append_cases (map (λ (u : List ℕ). byte l ∷ u) (f l)) m)
@@ -155,6 +158,7 @@ AllPlain (l ∷ ls) = Plain l × AllPlain ls
 plain : (l : Letter) (ls : List Letter) → AllPlain ls → Memᴰ l ls → Plain l
 plain l (x ∷ ls) (p, ps) (Memᴰ.head e) = subst Plain (sym e) p
 plain l (x ∷ ls) (p, ps) (Memᴰ.tail m) = plain l ls ps m
+plain l [] _ x = elim x [ ]
 
 -- bytes that are the text of k terms without bells, with n letters in all
 pub record Spelt (k n : ℕ) (s : List ℕ) : Type 0 where

@@ -5,14 +5,14 @@ use Rattle.small_texts.proofs.Choosing.{Untried, owes, arity-most, untried_start
 use Rattle.small_texts.proofs.choose.Goals as goal
 
 pub overflow_sub-others : goal.overflow_sub-others
-overflow_sub-others c = omega (arith, owes c.args.owing c.args.rest c.args.index c.requires.1)
+overflow_sub-others c = omega (arith, owes c.args.owing c.args.rest c.args.index c.requires.index_bound)
 
 pub loop-i-init : goal.loop-i-init
-loop-i-init c = untried_start c.args.owing c.args.rest c.args.index c.requires.1
+loop-i-init c = untried_start c.args.owing c.args.rest c.args.index c.requires.index_bound
 
 pub overflow_add-others : goal.overflow_add-others
 overflow_add-others c =
-    let few = owes c.args.owing c.args.rest c.args.index c.requires.1 in
+    let few = owes c.args.owing c.args.rest c.args.index c.requires.index_bound in
     let takes = arity-most c.letter-b.result c.arity.result c.arity.ensures in
     omega (arith, few, takes)
 

@@ -1,4 +1,3 @@
-use Prim.Native.Nat.{◌-◌}
 use native.Mathlib.Omega.{arith}
 use mathlib.Core.Path.{refl}
 use lib.ListN.{length}
@@ -9,7 +8,7 @@ use Rattle.small_texts.proofs.write_letters.Goals as goal
 pub loop-at-init : goal.loop-at-init
 loop-at-init c =
     let a = c.args in
-    nothing_written (length a.text.now) a.index a.text.now refl c.requires.1
+    nothing_written (length a.text.now) a.index a.text.now refl c.requires.index_bound
 
 pub choose-choice-requires : goal.choose-choice-requires
 choose-choice-requires c =
