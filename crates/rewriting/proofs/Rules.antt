@@ -189,7 +189,7 @@ module _ {x front : List ℕ} {u s : Term} {back : List ℕ} {p mid end : ℕ} w
         step = refl;
         spelt =
             pieced (picked 6 p (between (p + 2) mid) (end + 1)) x (front-part on) (first_part on) refl refl (behind-part on)
-            ∙ simp (append_assoc, append-nil);
+            ∙ simp append-nil;
         grows = omega arith;
         exact = λ h. omega arith;
       }

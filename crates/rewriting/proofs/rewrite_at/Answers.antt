@@ -49,7 +49,7 @@ returns-then-head-eq-A c =
     ∙ rewrite-letter end_of a.s.now a.p c.byte_at-head.result c.byte_at-head.ensures Letter.A c.if-head-eq-A.true
 
 pub pair_at-requires : goal.pair_at-requires
-pair_at-requires c = (c.if-s-p.false, c.end_of-end-then-head-eq-B.ensures.1)
+pair_at-requires c = (c.if-s-p.false, c.end_of-end-then-head-eq-B.ensures.bounded)
 
 pub returns-then-head-eq-B : goal.returns-then-head-eq-B
 returns-then-head-eq-B c =
