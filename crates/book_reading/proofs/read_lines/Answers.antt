@@ -1,4 +1,4 @@
-use Prim.Native.Nat.{◌+◌, ◌-◌}
+use Prim.Native.Nat.{◌+◌}
 use mathlib.Core.Path.{refl, sym, ◌∙◌}
 use native.Mathlib.Omega.{arith}
 use lib.Seq.{length-take-le}
@@ -25,7 +25,7 @@ pub returns-then-number-ne0 : goal.returns-then-number-ne0
 returns-then-number-ne0 c =
     let number = number_of c.check_line-fault.result in
     refuses number (c.loop-at.count + 1) c.refusal.ensures refl
-    (refused c.loop-at.invariant c.requires c.loop-at-test.true c.find_from-end.ensures c.type_inv.keys
+    (refused c.loop-at.invariant c.requires c.loop-at-test.true c.find_from-end.ensures c.cut-body.ensures
     number c.check_line-fault.ensures (λ z. c.if-number-ne0.true (c.number.ensures ∙ z)))
 
 pub offset_bounds-keys-count : goal.offset_bounds-keys-count
@@ -35,7 +35,7 @@ pub bounds-keys-count : goal.bounds-keys-count
 bounds-keys-count c =
     let right = sym c.check_line-fault.ensures ∙ sym c.number.ensures ∙ c.if-number-ne0.false in
     room c.loop-at.invariant c.requires c.loop-at-test.true c.find_from-end.ensures
-    c.type_inv.keys right
+    c.cut-body.ensures right
 
 pub overflow_add-count-in-loop-at : goal.overflow_add-count-in-loop-at
 overflow_add-count-in-loop-at c = omega (arith, few c.loop-at.invariant)
@@ -54,10 +54,10 @@ pub loop-at-preserved : goal.loop-at-preserved
 loop-at-preserved c =
     let right = sym c.check_line-fault.ensures ∙ sym c.number.ensures ∙ c.if-number-ne0.false in
     let key =
-    name-key c.type_inv.keys.now c.cut.result.now c.find.result c.key.result
+    name-key c.cut-body.result.now c.cut.result.now c.find.result c.key.result
     c.find.ensures c.cut.ensures c.key.ensures in
     again c.loop-at.invariant c.requires c.loop-at-test.true c.find_from-end.ensures
-    c.type_inv.keys right c.key.result key
+    c.cut-body.ensures right c.key.result key
 
 pub returns : goal.returns
 returns c = at-end c.args.book.now c.loop-at.keys c.loop-at.count c.loop-at.at c.loop-at.invariant c.loop-at-test.false
