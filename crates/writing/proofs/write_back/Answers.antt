@@ -6,9 +6,9 @@ use Rattle.writing.proofs.write_back.Goals as goal
 pub returns : goal.returns
 returns c =
     let a = c.args in
-    let put = c.append.ensures in
+    let put = c.append.ensures.0 in
     let cleared = c.clear.ensures in record {
-      back = written_back a.w a.len a.area.now a.work.now c.cut.ensures c.write-size.ensures.0 c.write-size.ensures.1 put.0
-          cleared.0;
-      work_after = work_cleared (pieces_of a.w c.cut.result.now) a.work.now c.write-size.ensures.0 cleared.1;
+      back = written_back a.w a.len a.area.now a.work.now c.cut.ensures c.write-size.ensures.0 c.write-size.ensures.1 put
+          cleared.area_after;
+      work_after = work_cleared (pieces_of a.w c.cut.result.now) a.work.now c.write-size.ensures.0 cleared.work_after;
     }
