@@ -1,4 +1,3 @@
-use Prim.Native.Nat.{◌-◌}
 use mathlib.Core.Path.{◌∙◌}
 use Rattle.fields.proofs.Stops.{at-tab, at-feed, at_other, at-end}
 use Rattle.fields.proofs.stop_from.Goals as goal
