@@ -1,6 +1,6 @@
 -- What is looked up in a store, on its bytes (REQUIREMENTS, Catalogue); on the store of a catalogue these are the notions of trees, by
 -- proofs/Searching.antt and proofs/Replaying.antt.
-use Rattle.std.specs.Prelude.{ℕ, zero, suc, ◌+◌, ◌*◌, ◌-◌, Bool, true, false, cond, not, ◌&&◌, List, ltb, leb, eqb}
+use Rattle.std.specs.Prelude.{ℕ, zero, suc, ◌+◌, ◌*◌, ◌-◌, Bool, false, cond, not, ◌&&◌, List, ltb, leb, eqb}
 use Rattle.std.proofs.Math.Option.{Option, none, some}
 use Rattle.calculus.specs.Term.{Term, text}
 use Rattle.calculus.specs.Parse.{term_of}

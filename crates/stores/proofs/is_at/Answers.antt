@@ -9,13 +9,13 @@ use Rattle.stores.proofs.is_at.Goals as goal
 pub returns-then-word_at-print : goal.returns-then-word_at-print
 returns-then-word_at-print c =
     let a = c.args in
-    sym (at_other a.«entry» a.start a.end a.store.now a.result.now a.print
+    sym (at_other a.«entry» a.start a.end a.store.now a.res.now a.print
     (λ e. c.if-word_at-print.true (c.word_at.ensures ∙ e)))
 
 pub returns : goal.returns
 returns c =
     let a = c.args in
     c.same_bytes.ensures
-    ∙ ap (λ (l : List ℕ). same l a.result.now) c.cut.ensures
-    ∙ at_same a.«entry» a.start a.end a.store.now a.result.now a.print
+    ∙ ap (λ (l : List ℕ). same l a.res.now) c.cut.ensures
+    ∙ at_same a.«entry» a.start a.end a.store.now a.res.now a.print
     (sym c.word_at.ensures ∙ c.if-word_at-print.false)

@@ -1,15 +1,15 @@
-use Prim.Native.Nat.{ℕ, ◌-◌, ◌<◌, ◌≤◌}
+use Prim.Native.Nat.{ℕ, ◌<◌, ◌≤◌}
 use mathlib.Core.Path.{sym, ◌∙◌, ap}
 use mathlib.Core.Bool.{Bool}
 use mathlib.Core.List.{List}
 use native.Mathlib.Omega.{arith}
-use borrow.Author.Tests.{not-true, not-false}
 use lib.ListN.{length, replicate, get_or}
 use Rattle.slices.specs.Same.{same}
 use Rattle.entries.specs.Store.{store_size}
 use Rattle.stores.proofs.Replaying.{replay_start, replay-within, replay-few, replay-stop, replay-turn, replay-unused, replay-behind, replay-keeps, short-keeps}
 use Rattle.stores.proofs.keeps.Goals as goal
 
+-- all zeros, of a part
 abbrev zeros : List ℕ → Bool
 zeros s = same s (replicate (length s) 0)
 
@@ -28,7 +28,7 @@ returns-then-not-may_follow c =
     let long : store_size ≤ length store = omega (arith, c.if-store-lt-STORE_SIZE.false) in
     let bytes : (i : ℕ) → get_or store i 0 < 256 = λ i. omega (arith, c.type_inv.store i) in
     replay-stop store long bytes c.loop-size.invariant.0 c.loop-size.size c.loop-size.invariant.1 c.loop-size-test.true
-    (sym c.may_follow.ensures ∙ not-true _ c.if-not-may_follow.true)
+    (sym c.may_follow.ensures ∙ c.if-not-may_follow.true)
 
 pub overflow_add-used : goal.overflow_add-used
 overflow_add-used c =
@@ -37,7 +37,7 @@ overflow_add-used c =
     let bytes : (i : ℕ) → get_or store i 0 < 256 = λ i. omega (arith, c.type_inv.store i) in
     let more =
     replay-turn store long bytes c.loop-size.invariant.0 c.loop-size.size c.loop-size.invariant.1 c.loop-size-test.true
-    (sym c.may_follow.ensures ∙ not-false _ c.if-not-may_follow.false) in
+    (sym c.may_follow.ensures ∙ c.if-not-may_follow.false) in
     omega (arith, (replay-within store long bytes more).1)
 
 pub loop-size-smaller : goal.loop-size-smaller
@@ -55,7 +55,7 @@ loop-size-preserved c =
     let bytes : (i : ℕ) → get_or store i 0 < 256 = λ i. omega (arith, c.type_inv.store i) in
     let more =
     replay-turn store long bytes c.loop-size.invariant.0 c.loop-size.size c.loop-size.invariant.1 c.loop-size-test.true
-    (sym c.may_follow.ensures ∙ not-false _ c.if-not-may_follow.false) in
+    (sym c.may_follow.ensures ∙ c.if-not-may_follow.false) in
     let within = replay-within store long bytes more in
     (more, c.size_at-size-in-loop-size.ensures, within.0, within.1)
 
@@ -68,7 +68,7 @@ returns-then-not-is_zeros c =
     let long : store_size ≤ length store = omega (arith, c.if-store-lt-STORE_SIZE.false) in
     let bytes : (i : ℕ) → get_or store i 0 < 256 = λ i. omega (arith, c.type_inv.store i) in
     replay-unused store long bytes c.loop-size.invariant.0 (sym c.loop-size.invariant.1 ∙ c.loop-size-test.false)
-    (ap zeros (sym c.cut.ensures) ∙ sym c.is_zeros.ensures ∙ not-true _ c.if-not-is_zeros.true)
+    (ap zeros (sym c.cut.ensures) ∙ sym c.is_zeros.ensures ∙ c.if-not-is_zeros.true)
 
 pub overflow_add-used-2 : goal.overflow_add-used-2
 overflow_add-used-2 c = omega (arith, c.loop-size.invariant.3)
@@ -79,7 +79,7 @@ returns-then-not-is_zeros-2 c =
     let long : store_size ≤ length store = omega (arith, c.if-store-lt-STORE_SIZE.false) in
     let bytes : (i : ℕ) → get_or store i 0 < 256 = λ i. omega (arith, c.type_inv.store i) in
     replay-behind store long bytes c.loop-size.invariant.0 (sym c.loop-size.invariant.1 ∙ c.loop-size-test.false)
-    (ap zeros (sym c.cut-2.ensures) ∙ sym c.is_zeros-2.ensures ∙ not-true _ c.if-not-is_zeros-2.true)
+    (ap zeros (sym c.cut-2.ensures) ∙ sym c.is_zeros-2.ensures ∙ c.if-not-is_zeros-2.true)
 
 pub returns : goal.returns
 returns c =
@@ -87,5 +87,5 @@ returns c =
     let long : store_size ≤ length store = omega (arith, c.if-store-lt-STORE_SIZE.false) in
     let bytes : (i : ℕ) → get_or store i 0 < 256 = λ i. omega (arith, c.type_inv.store i) in
     replay-keeps store long bytes c.loop-size.invariant.0 (sym c.loop-size.invariant.1 ∙ c.loop-size-test.false)
-    (ap zeros (sym c.cut.ensures) ∙ sym c.is_zeros.ensures ∙ not-false _ c.if-not-is_zeros.false)
-    (ap zeros (sym c.cut-2.ensures) ∙ sym c.is_zeros-2.ensures ∙ not-false _ c.if-not-is_zeros-2.false)
+    (ap zeros (sym c.cut.ensures) ∙ sym c.is_zeros.ensures ∙ c.if-not-is_zeros.false)
+    (ap zeros (sym c.cut-2.ensures) ∙ sym c.is_zeros-2.ensures ∙ c.if-not-is_zeros-2.false)

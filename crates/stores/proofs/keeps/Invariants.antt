@@ -1,6 +1,5 @@
 -- `stores::keeps` meets its contract. The loop's invariant is `Replayed`: so many results are read, and any catalogue that the store keeps
 -- goes on from them. The measure is how many entries are left.
--- all zeros, of a part
 use Prim.Native.Nat.{◌-◌, ◌≤◌}
 use mathlib.Core.Path.{◌≡◌}
 use Rattle.entries.specs.Catalogue.{entry_limit, letter_limit}

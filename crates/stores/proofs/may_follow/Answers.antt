@@ -1,7 +1,6 @@
 -- `stores::may_follow` meets its contract, test by test; the text is the part of the store that was cut.
 use Prim.Native.Nat.{ℕ}
 use mathlib.Core.Path.{sym, ◌∙◌, ap, ap₂}
-use borrow.Author.Tests.{not-true, not-false}
 use lib.Dec.{eqb}
 use Rattle.fingerprints.specs.Print.{print_of}
 use Rattle.stores.specs.Search.{number_in, is_result}
@@ -17,14 +16,14 @@ pub returns-then-not-is_result : goal.returns-then-not-is_result
 returns-then-not-is_result c =
     let a = c.args in
     no_result a.count a.used a.size a.store.now c.if-used-size.false c.requires.1
-    (ap is_result (sym c.cut-result.ensures) ∙ sym c.is_result.ensures ∙ not-true _ c.if-not-is_result.true)
+    (ap is_result (sym c.cut-result.ensures) ∙ sym c.is_result.ensures ∙ c.if-not-is_result.true)
 
 pub returns-then-word_at-print : goal.returns-then-word_at-print
 returns-then-word_at-print c =
     let a = c.args in
     let cut-is = c.cut-result.ensures in
     other-print a.count a.used a.size a.store.now c.if-used-size.false c.requires.1
-    (ap is_result (sym cut-is) ∙ sym c.is_result.ensures ∙ not-false _ c.if-not-is_result.false)
+    (ap is_result (sym cut-is) ∙ sym c.is_result.ensures ∙ c.if-not-is_result.false)
     (λ e. c.if-word_at-print.true (c.word_at.ensures ∙ e ∙ ap print_of (sym cut-is) ∙ sym c.fingerprint-print.ensures))
 
 pub returns : goal.returns
@@ -34,5 +33,5 @@ returns c =
     let print-is = c.fingerprint-print.ensures ∙ ap print_of cut-is in
     ap (λ (n : ℕ). eqb n 0) (c.number_of.ensures ∙ ap₂ (number_in a.count a.used a.store.now) cut-is print-is)
     ∙ print-agrees a.count a.used a.size a.store.now c.if-used-size.false c.requires.1
-    (ap is_result (sym cut-is) ∙ sym c.is_result.ensures ∙ not-false _ c.if-not-is_result.false)
+    (ap is_result (sym cut-is) ∙ sym c.is_result.ensures ∙ c.if-not-is_result.false)
     (sym c.word_at.ensures ∙ c.if-word_at-print.false ∙ print-is)

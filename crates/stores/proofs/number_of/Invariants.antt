@@ -1,6 +1,6 @@
 -- `stores::number_of` meets its contract. The loop's invariant: what is not yet looked at, with its end, has the number that all have. The
 -- measure is how many are left.
-use Prim.Native.Nat.{◌-◌, ◌≤◌}
+use Prim.Native.Nat.{◌≤◌}
 use mathlib.Core.Path.{◌≡◌}
 use Rattle.entries.specs.Catalogue.{entry_limit, letter_limit}
 use Rattle.stores.specs.Search.{found_in, number_in}

@@ -1,11 +1,11 @@
-use Prim.Native.Nat.{◌+◌, ◌<◌, ◌-◌}
+use Prim.Native.Nat.{◌+◌, ◌<◌}
 use mathlib.Core.Path.{refl, ◌∙◌, ap}
 use mathlib.Core.Bool.{Bool, ◌&&◌}
-use mathlib.Core.Logic.{⊎_elim}
 use native.Mathlib.Omega.{arith}
 use lib.ListN.{length}
 use Rattle.stores.proofs.Comparing.{same_from, same-on, same-off, same_end, same_lengths}
 use Rattle.stores.proofs.same_bytes.Goals as goal
+use Rattle.stores.proofs.same_bytes.Goals.{then-a-i, else-a-i}
 
 pub returns-then-a-b : goal.returns-then-a-b
 returns-then-a-b c =
@@ -22,10 +22,14 @@ loop-i-preserved c =
     let in-a = c.loop-i-test.true in
     let in_b : c.loop-i.i < length b = omega (arith, c.if-a-b.false) in (
       omega arith,
-      ⊎_elim
-          (λ h. ap (λ (x : Bool). x && same_from (c.loop-i.i + 1) a b) h.1 ∙ same-off a b c.loop-i.i in-a in_b c.loop-i.equal h.0.taken ∙ c.loop-i.invariant.1)
-          (λ h. ap (λ (x : Bool). x && same_from (c.loop-i.i + 1) a b) h.1 ∙ same-on a b c.loop-i.i in-a in_b c.loop-i.equal h.0.left ∙ c.loop-i.invariant.1)
-          c.if-a-i.branch,
+      elim c.if-a-i.branch [
+        | then-a-i w ↦
+            ap (λ (x : Bool). x && same_from (c.loop-i.i + 1) a b) w.equal-is
+            ∙ same-off a b c.loop-i.i in-a in_b c.loop-i.equal w.if-a-i.true ∙ c.loop-i.invariant.1
+        | else-a-i w ↦
+            ap (λ (x : Bool). x && same_from (c.loop-i.i + 1) a b) w.equal-is
+            ∙ same-on a b c.loop-i.i in-a in_b c.loop-i.equal w.if-a-i.false ∙ c.loop-i.invariant.1
+      ],
     )
 
 pub returns : goal.returns
