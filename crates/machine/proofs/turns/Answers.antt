@@ -40,7 +40,7 @@ pub shape_of-area : goal.shape_of-area
 shape_of-area c = c.loop-on.invariant.same_area
 
 pub shape_of-counts : goal.shape_of-counts
-shape_of-counts c = c.loop-on.invariant.same_counts
+shape_of-counts c = c.loop-on.invariant.same-counts
 
 pub returns : goal.returns
 returns c = going-stopped c.loop-on.invariant
