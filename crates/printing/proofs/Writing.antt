@@ -33,15 +33,36 @@ length-row [] = omega arith
 length-row (field ∷ []) = length-append field (line_feed ∷ [])
 length-row (field ∷ other ∷ fields) = omega (arith, length-append field (tab ∷ row_of (other ∷ fields)), length-row (other ∷ fields))
 
+-- the last field
+written_last :
+    (field : List ℕ) {at end : ℕ} {dst dst' : List ℕ} → at + (length field + 1) ≤ length dst → Appends at (field ++ (line_feed ∷ [])) dst end dst' →
+    Wrote at end (field ++ (line_feed ∷ [])) dst dst'
+written_last field {at} {dst = dst} room e = wrote at (field ++ (line_feed ∷ [])) dst (omega (arith, length-append field (line_feed ∷ []))) e
+
+-- a field in front of others
+written_next :
+    (field : List ℕ) (others : ℕ) {at mid : ℕ} {dst dst₁ : List ℕ} → at + (length field + 1 + others) ≤ length dst →
+    Appends at (field ++ (tab ∷ [])) dst mid dst₁ →
+    Wrote at mid (field ++ (tab ∷ [])) dst dst₁ × (mid + others ≤ length dst₁)
+written_next field others {at} {dst = dst} room e =
+    let first = wrote at (field ++ (tab ∷ [])) dst (omega (arith, length-append field (tab ∷ []))) e in
+    (first, omega (arith, length-append field (tab ∷ []), first.ends, first.size))
+
+-- a field and the others behind it, as one write
+joined :
+    (field row : List ℕ) {at mid end : ℕ} {dst dst₁ dst' : List ℕ} → Wrote at mid (field ++ (tab ∷ [])) dst dst₁ →
+    Wrote mid end row dst₁ dst' →
+    Wrote at end (field ++ (tab ∷ row)) dst dst'
+joined field row first others = rw append_snoc at (wrote_then first others)
+
 written :
     (fields : List (List ℕ)) {at end : ℕ} {dst dst' : List ℕ} → at + total fields ≤ length dst → Fields fields at dst end dst' →
     Wrote at end (row_of fields) dst dst'
-written (field ∷ []) {at} {dst = dst} room (Fields.last e) =
-    wrote at (field ++ (line_feed ∷ [])) dst (omega (arith, length-append field (line_feed ∷ []))) e
-written (field ∷ other ∷ fields) {at} {end} {dst} {dst'} room (Fields.next e more) =
-    let first = wrote at (field ++ (tab ∷ [])) dst (omega (arith, length-append field (tab ∷ []))) e in
-    let others = written (other ∷ fields) (omega (arith, length-append field (tab ∷ []), first.ends, first.size)) more in
-    rw append_snoc at (wrote_then first others)
+written (field ∷ []) room (Fields.last e) = written_last field room e
+written (field ∷ other ∷ fields) room (Fields.next e more) =
+    let (first, left) = written_next field (total (other ∷ fields)) room e in
+    joined field (row_of (other ∷ fields)) first (written (other ∷ fields) left more)
+written [] room x = elim x [ ]
 
 -- fields that have room are appended as one line
 pub row_appended_at :
