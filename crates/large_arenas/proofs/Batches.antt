@@ -5,7 +5,6 @@ use mathlib.Core.Path.{◌≡◌, ◌∙◌, ap, subst}
 use mathlib.Core.List.{List, ◌++◌, append_assoc}
 use lib.ListN.{length, length-append, length-take, take}
 use Rattle.calculus.specs.Limits.{fuel_limit}
-use Rattle.calculus.specs.Term.{size}
 use Rattle.calculus.specs.Steps.{Steps}
 use Rattle.calculus.specs.Counts.{tally}
 use Rattle.calculus.proofs.PrefixCode.{length-text}
