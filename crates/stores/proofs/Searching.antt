@@ -4,6 +4,7 @@ use native.Mathlib.Omega.{arith}
 use native.Mathlib.Numerals.{add-one}
 use mathlib.Core.Path.{◌≡◌, refl, sym, ◌∙◌, ap, ap₂}
 use mathlib.Core.Bool.{Bool, true, false, cond, not, ◌&&◌}
+use mathlib.Core.Logic.{inl, inr}
 use mathlib.Core.List.{List, [], ◌∷◌}
 use borrow.Author.Tests.{lt-ltb, le-ltb, le-leb, lt-leb, eq-eqb, ne_eqb}
 use lib.Dec.{leb, eqb}
@@ -100,6 +101,13 @@ module _ (store result : List ℕ) (print : ℕ) where
   found-end (suc left) end h = absurd (omega arith)
 
 -- ---- normal terms
+
+-- an answer of reading that is not the first is one of the others
+pub others-unread : (r : Reading) → ((n : ℕ) → r ≡ Whole n → ⊥) → OneOf (1 ∷ 2 ∷ 3 ∷ []) (tag_of the_type r)
+others-unread (Whole n) h = absurd (h n refl)
+others-unread (NoLetter place) h = inl refl
+others-unread (NotWhole place) h = inr (inl refl)
+others-unread (Beyond place) h = inr (inr refl)
 
 -- bytes that reading refuses are no result
 pub refused-result : (bytes : List ℕ) (number place : ℕ) → Reply.refused number place ≡ reading_of bytes → is_result bytes ≡ false

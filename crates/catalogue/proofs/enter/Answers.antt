@@ -4,6 +4,7 @@ use mathlib.Core.Path.{sym, ◌∙◌, ap}
 use lib.Seq.{length-take-le}
 use Rattle.reading.specs.Answer.{answer_of as readingAnswer}
 use Rattle.entries.specs.Store.{store_size}
+use Rattle.stores.proofs.Searching.{others-unread}
 use Rattle.catalogue.proofs.Ending.{refused-short, refused-no-catalogue, refused-unread, refused-stop, ready}
 use Rattle.catalogue.proofs.enter.Goals as goal
 
@@ -24,7 +25,7 @@ returns-in_default-reading c =
     refused-unread c.args.term.now c.args.store.now (omega (arith, c.if-store-lt-STORE_SIZE.false)) c.keeps-kept.result
     c.keeps-kept.ensures
     c.in-Results.count c.in-Results.used c.in-Results.is c.read-reading.result
-    c.read-reading.ensures c.in_default-reading.is
+    c.read-reading.ensures (others-unread c.read-reading.result c.in_default-reading.not-Whole)
 
 pub returns-then-has_stop : goal.returns-then-has_stop
 returns-then-has_stop c =
