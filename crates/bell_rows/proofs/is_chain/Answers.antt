@@ -1,7 +1,5 @@
-use Prim.Native.Nat.{◌-◌}
 use native.Mathlib.Omega.{arith}
 use mathlib.Core.Path.{refl, sym, ◌∙◌}
-use borrow.Author.Tests.{not-true, not-false}
 use Rattle.bell_rows.proofs.Scanning.{last_byte_lem, no_byte, no-pair, no_bell, one_link}
 use Rattle.bell_rows.proofs.is_chain.Goals as goal
 
@@ -19,12 +17,12 @@ returns-then-term-at-ne-B c =
 pub returns-then-not-is_bell : goal.returns-then-not-is_bell
 returns-then-not-is_bell c =
     no_bell c.args.term.now c.loop-at.at c.loop-at-test.true c.if-term-at-eq1.false c.if-term-at-ne-B.false
-    (sym c.is_bell.ensures ∙ not-true _ c.if-not-is_bell.true) ∙ c.loop-at.invariant.1
+    (sym c.is_bell.ensures ∙ c.if-not-is_bell.true) ∙ c.loop-at.invariant.1
 
 pub loop-at-preserved : goal.loop-at-preserved
 loop-at-preserved c =
     let link = one_link c.args.term.now c.loop-at.at c.loop-at-test.true c.if-term-at-eq1.false
-    c.if-term-at-ne-B.false (sym c.is_bell.ensures ∙ not-false _ c.if-not-is_bell.false) ∙ c.loop-at.invariant.1 in
+    c.if-term-at-ne-B.false (sym c.is_bell.ensures ∙ c.if-not-is_bell.false) ∙ c.loop-at.invariant.1 in
     (omega arith, link)
 
 pub returns : goal.returns

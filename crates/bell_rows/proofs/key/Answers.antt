@@ -1,4 +1,4 @@
-use Prim.Native.Nat.{◌<◌, ◌-◌}
+use Prim.Native.Nat.{◌<◌}
 use native.Mathlib.Omega.{arith}
 use mathlib.Core.Path.{◌≡◌, refl, ◌∙◌}
 use borrow.Author.Rules.{rules}
@@ -19,7 +19,7 @@ overflow_mul-key c =
 
 pub overflow_add-key : goal.overflow_add-key
 overflow_add-key c =
-    let row = c.args.t1 in
+    let row = c.args.row in
     let i = c.loop-place.place in
     let byte : Fits w8 (get_or row i 0) = search rules in
     let small = key-small i c.loop-place.key (omega (arith, c.loop-place-test.true)) c.loop-place.invariant.2 in
@@ -28,7 +28,7 @@ overflow_add-key c =
 
 pub loop-place-preserved : goal.loop-place-preserved
 loop-place-preserved c =
-    let row = c.args.t1 in
+    let row = c.args.row in
     let i = c.loop-place.place in
     let byte : Fits w8 (get_or row i 0) = search rules in
     let sized : length row ≡ most = search rules in
@@ -38,6 +38,6 @@ loop-place-preserved c =
 
 pub returns : goal.returns
 returns c =
-    let row = c.args.t1 in
+    let row = c.args.row in
     let sized : length row ≡ most = search rules in
     c.loop-place.invariant.1 ∙ key-whole row c.loop-place.place sized (omega arith)
