@@ -1,7 +1,7 @@
 -- Lines that all have room are one write, and how long the lines of counts are at most. Carried by `wrote_then`. Assumes nothing.
 use Prim.Native.Nat.{ℕ, suc, ◌+◌, ◌*◌, ◌≤◌, ◌<◌}
 use native.Mathlib.Omega.{arith}
-use mathlib.Core.List.{List, [], ◌∷◌, ◌++◌}
+use mathlib.Core.List.{List, [], ◌∷◌}
 use mathlib.Core.Path.{refl}
 use lib.ListN.{length, length-append}
 use Rattle.calculus.proofs.Ranges.{Each}
