@@ -1,8 +1,9 @@
 -- From what the code finds to the reply and the table: each way out of `ring` and of `ring_chain` as one law. Assumes nothing.
 use Prim.Native.Nat.{ℕ, suc, ◌+◌, ◌*◌, ◌-◌, ◌/◌, ◌%◌, ◌≤◌, ◌<◌}
 use native.Mathlib.Omega.{arith}
-use mathlib.Core.Path.{◌≡◌, sym, ◌∙◌, ap, ap₂}
+use mathlib.Core.Path.{◌≡◌, refl, sym, ◌∙◌, ap, ap₂}
 use mathlib.Core.Bool.{Bool, true, false}
+use mathlib.Core.Logic.{inl, inr}
 use mathlib.Core.List.{List, [], ◌∷◌, ◌++◌}
 use types.Run.{OneOf}
 use denote.Enum.Declared.{tag_of}
@@ -17,6 +18,7 @@ use Rattle.reading.specs.Reply.{Reply, passed_on}
 use Rattle.reading.specs.Reading.{reading_of}
 use Rattle.reading.specs.Answer.{answer_of as readingAnswer}
 use Rattle.reading.specs.declared.Reading.{Reading}
+use Rattle.reading.specs.declared.Reading.TheVariants.{Whole, NoLetter, NotWhole, Beyond}
 use Rattle.reading.specs.contracts.Reading.{the_type}
 use Rattle.reading.proofs.Terms.{whole-read, unread}
 use Rattle.bell_rows.specs.Chain.{bells_of}
@@ -49,6 +51,13 @@ bells_by_test t bytes same e =
     chain-text t
     ∙ ap (λ (s : List ℕ). some_if (is_chain_text s) (bells_in s)) (sym same)
     ∙ ap (λ (b : Bool). some_if b (bells_in bytes)) e
+
+-- an answer of reading that is not the first is one of the others
+pub others-unread : (r : Reading) → ((n : ℕ) → r ≡ Whole n → ⊥) → OneOf (1 ∷ 2 ∷ 3 ∷ []) (tag_of the_type r)
+others-unread (Whole n) h = absurd (h n refl)
+others-unread (NoLetter place) h = inl refl
+others-unread (NotWhole place) h = inr (inl refl)
+others-unread (Beyond place) h = inr (inr refl)
 
 module _ (bytes : List ℕ) (n : ℕ) (table : List ℕ) where
   -- what reading refuses

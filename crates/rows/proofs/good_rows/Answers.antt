@@ -1,7 +1,5 @@
-use Prim.Native.Nat.{◌-◌}
 use native.Mathlib.Omega.{arith}
 use native.Mathlib.Nat.{zero-add}
-use borrow.Author.Tests.{not-true, not-false}
 use Rattle.bell_rows.proofs.Bells.{row-there}
 use Rattle.rows.proofs.Good.{bad-here, good-here, all-good}
 use Rattle.rows.proofs.good_rows.Goals as goal
@@ -31,13 +29,13 @@ pub returns-then-not-is_row : goal.returns-then-not-is_row
 returns-then-not-is_row c =
     bad-here c.args.chain.now c.args.bells c.args.count c.loop-i.i c.requires.0 c.requires.1
     c.loop-i-test.true c.cut-links.result.now c.row_of.result c.is_row.result
-    c.cut-links.ensures c.row_of.ensures c.is_row.ensures (not-true _ c.if-not-is_row.true) c.loop-i.invariant.1
+    c.cut-links.ensures c.row_of.ensures c.is_row.ensures c.if-not-is_row.true c.loop-i.invariant.1
 
 pub loop-i-preserved : goal.loop-i-preserved
 loop-i-preserved c =
     let counted = good-here c.args.chain.now c.args.bells c.args.count c.loop-i.i c.requires.0
     c.requires.1 c.loop-i-test.true c.cut-links.result.now c.row_of.result c.is_row.result
-    c.cut-links.ensures c.row_of.ensures c.is_row.ensures (not-false _ c.if-not-is_row.false) c.loop-i.invariant.1 in
+    c.cut-links.ensures c.row_of.ensures c.is_row.ensures c.if-not-is_row.false c.loop-i.invariant.1 in
     (omega arith, counted)
 
 pub returns : goal.returns

@@ -20,6 +20,6 @@ slice_bounds-different-end c =
 
 pub returns : goal.returns
 returns c =
-    let different = c.different.ensures ∙ ap (λ (l : List ℕ). length (withoutRepeats eqb l)) c.store.ensures.1 ∙ sym
+    let different = c.different.ensures ∙ ap (λ (l : List ℕ). length (withoutRepeats eqb l)) c.store.ensures.keys_after ∙ sym
     (keyed-different c.args.bells c.args.count c.args.chain.now c.args.table.now c.requires) in
     (c.store.ensures.wrote, different)

@@ -1,4 +1,3 @@
-use Prim.Native.Nat.{◌-◌}
 use native.Mathlib.Omega.{arith}
 use Rattle.bell_rows.proofs.Bells.{row-there}
 use Rattle.rows.proofs.Storing.{none-stored, one-stored, all-stored}
@@ -38,8 +37,9 @@ shape_of-table c = c.loop-i.invariant.laid.size
 pub shape_of-keys : goal.shape_of-keys
 shape_of-keys c = c.loop-i.invariant.sized
 
--- clauses: wrote keys_after
 pub returns : goal.returns
 returns c =
+    let all =
     all-stored c.args.bells c.args.count c.args.chain.now c.args.table.now c.args.keys.now
-    c.requires c.loop-i.i c.loop-i.table c.loop-i.keys c.loop-i.invariant c.loop-i-test.false
+    c.requires c.loop-i.i c.loop-i.table c.loop-i.keys c.loop-i.invariant c.loop-i-test.false in
+    record { wrote = all.0; keys_after = all.1 }
