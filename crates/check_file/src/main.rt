@@ -6,25 +6,34 @@ ghost use Rattle.std.specs.Prelude.{◌≡◌, ◌+◌, ◌≤◌, length, take}
 ghost use Rattle.slices.specs.Put.{put, behind};
 ghost use Rattle.answering.specs.Program.{check_program, unless_failed};
 
+use std::io::Read;
+
 // Reads once, behind the first `at` bytes, and answers how many bytes that gave. `failed` says whether the read failed, which a read that
 // a signal interrupts counts as.
-fn read_some(file: &mut [u8], at: usize, failed: &mut bool) -> usize
+fn read_some<R: Read>(from: &mut R, file: &mut [u8], at: usize, failed: &mut bool) -> usize
     requires { at ≤ length file.old }
     ensures { (at + result ≤ length file.new) × (take at file.new ≡ take at file.old) }
 {
     let rest = &mut file[at..];
-    let answered = libc::read(0, rest);
-    *failed = answered < 0;
-    io::count(answered, rest)
+    match from.read(rest) {
+        Ok(n) => {
+            *failed = false;
+            n
+        }
+        Err(_) => {
+            *failed = true;
+            0
+        }
+    }
 }
 
-// Reads standard input into `file`, until that is full, the input ends or a read fails, and answers how many bytes that are.
-fn read_all(file: &mut [u8], failed: &mut bool) -> usize
+// Reads `from` into `file`, until that is full, the input ends or a read fails, and answers how many bytes that are.
+fn read_all<R: Read>(from: &mut R, file: &mut [u8], failed: &mut bool) -> usize
     ensures { result ≤ length file.new }
 {
     let mut at = 0;
     while at < file.len() {
-        let more = read_some(file, at, failed);
+        let more = read_some(from, file, at, failed);
         if more == 0 {
             return at;
         }
@@ -44,16 +53,16 @@ fn answer(failed: bool, file: &[u8], out: &mut [u8]) -> usize
     check_answers::answer_check(file, out)
 }
 
-fn main() {
+fn main(rt: HostRuntime) {
     let mut file = [0u8; 65537];
     let mut out = [0u8; 128];
     let mut failed = false;
-    let size = read_all(&mut file, &mut failed);
+    let size = read_all(&mut rt.stdin(), &mut file, &mut failed);
     let n = answer(failed, slices::cut(&file, 0, size), &mut out);
     if failed {
-        io::write_all(2, b"check_file: standard input could not be read\n");
+        let _ = eprintln!(rt; "check_file: standard input could not be read");
     }
-    if !io::write_all(1, slices::cut(&out, 0, n)) {
-        io::write_all(2, b"check_file: standard output could not be written\n");
+    if rt.write_all(slices::cut(&out, 0, n)).is_err() {
+        let _ = eprintln!(rt; "check_file: standard output could not be written");
     }
 }

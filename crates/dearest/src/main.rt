@@ -21,16 +21,16 @@ fn answer(failed: bool, line: Line, out: &mut [u8]) -> usize
     dearest_answers::answer_dearest(sweep_line::asked_for(line), out)
 }
 
-fn main() {
+fn main(rt: HostRuntime) {
     let mut kept = [0u8; 1];
     let mut out = [0u8; 32];
     let mut failed = false;
-    let line = feeding::feed_all(&mut kept, &mut failed);
+    let line = feeding::feed_all(&mut rt.stdin(), &mut kept, &mut failed);
     let n = answer(failed, line, &mut out);
     if failed {
-        io::write_all(2, b"dearest: standard input could not be read\n");
+        let _ = eprintln!(rt; "dearest: standard input could not be read");
     }
-    if !io::write_all(1, slices::cut(&out, 0, n)) {
-        io::write_all(2, b"dearest: standard output could not be written\n");
+    if rt.write_all(slices::cut(&out, 0, n)).is_err() {
+        let _ = eprintln!(rt; "dearest: standard output could not be written");
     }
 }

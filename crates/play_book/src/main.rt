@@ -7,25 +7,34 @@ ghost use Rattle.slices.specs.Put.{put, behind};
 ghost use Rattle.answering.specs.Program.{unless_failed};
 ghost use Rattle.book_answers.specs.Program.{book_program};
 
+use std::io::Read;
+
 // Reads once, behind the first `at` bytes, and answers how many bytes that gave. `failed` says whether the read failed, which a read that
 // a signal interrupts counts as.
-fn read_some(book: &mut [u8], at: usize, failed: &mut bool) -> usize
+fn read_some<R: Read>(from: &mut R, book: &mut [u8], at: usize, failed: &mut bool) -> usize
     requires { at ≤ length book.old }
     ensures { (at + result ≤ length book.new) × (take at book.new ≡ take at book.old) }
 {
     let rest = &mut book[at..];
-    let answered = libc::read(0, rest);
-    *failed = answered < 0;
-    io::count(answered, rest)
+    match from.read(rest) {
+        Ok(n) => {
+            *failed = false;
+            n
+        }
+        Err(_) => {
+            *failed = true;
+            0
+        }
+    }
 }
 
-// Reads standard input into `book`, until that is full, the input ends or a read fails, and answers how many bytes that are.
-fn read_all(book: &mut [u8], failed: &mut bool) -> usize
+// Reads `from` into `book`, until that is full, the input ends or a read fails, and answers how many bytes that are.
+fn read_all<R: Read>(from: &mut R, book: &mut [u8], failed: &mut bool) -> usize
     ensures { result ≤ length book.new }
 {
     let mut at = 0;
     while at < book.len() {
-        let more = read_some(book, at, failed);
+        let more = read_some(from, book, at, failed);
         if more == 0 {
             return at;
         }
@@ -45,16 +54,16 @@ fn answer(failed: bool, book: &[u8], out: &mut [u8]) -> usize
     book_answers::answer_book(book, out)
 }
 
-fn main() {
+fn main(rt: HostRuntime) {
     let mut book = [0u8; books::BOOK_LIMIT + 1];
     let mut out = [0u8; 16512];
     let mut failed = false;
-    let size = read_all(&mut book, &mut failed);
+    let size = read_all(&mut rt.stdin(), &mut book, &mut failed);
     let n = answer(failed, slices::cut(&book, 0, size), &mut out);
     if failed {
-        io::write_all(2, b"play_book: standard input could not be read\n");
+        let _ = eprintln!(rt; "play_book: standard input could not be read");
     }
-    if !io::write_all(1, slices::cut(&out, 0, n)) {
-        io::write_all(2, b"play_book: standard output could not be written\n");
+    if rt.write_all(slices::cut(&out, 0, n)).is_err() {
+        let _ = eprintln!(rt; "play_book: standard output could not be written");
     }
 }

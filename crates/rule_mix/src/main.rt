@@ -21,17 +21,17 @@ fn answer(failed: bool, line: Line, term: &mut [u8], work: &mut [u8], out: &mut 
     mix_answers::answer_mix(finish_line::asked_for(line), term, work, out)
 }
 
-fn main() {
+fn main(rt: HostRuntime) {
     let mut term = [0u8; calculus::AREA_LIMIT];
     let mut work = [0u8; calculus::AREA_LIMIT];
     let mut out = [0u8; 17408];
     let mut failed = false;
-    let line = feeding::feed_all(&mut term, &mut failed);
+    let line = feeding::feed_all(&mut rt.stdin(), &mut term, &mut failed);
     let n = answer(failed, line, &mut term, &mut work, &mut out);
     if failed {
-        io::write_all(2, b"rule_mix: standard input could not be read\n");
+        let _ = eprintln!(rt; "rule_mix: standard input could not be read");
     }
-    if !io::write_all(1, slices::cut(&out, 0, n)) {
-        io::write_all(2, b"rule_mix: standard output could not be written\n");
+    if rt.write_all(slices::cut(&out, 0, n)).is_err() {
+        let _ = eprintln!(rt; "rule_mix: standard output could not be written");
     }
 }
