@@ -41,7 +41,7 @@ abbrev pub unless : Bool → Fault → Fault → Fault
 unless true fault other = other
 unless false fault other = fault
 
--- what is wrong with a well_formed line of that rule, whose premise fields name those
+-- what is wrong with a well-formed line of that rule, whose premise fields name those
 abbrev pub rule_fault : (file : List ℕ) → Rule → Judged → (first second : Cited) → Fault
 rule_fault file rule own first second =
     unless (cited_fit (count_of rule) first second) BadPremise (unless (instance_at file rule own first second) NoInstance Follows)

@@ -64,7 +64,7 @@ pub fn check_line(file: &[u8], starts: &[usize], n: usize, line: SixFields) -> F
     by_rule(file, rule, line.own, first, second)
 }
 
-// What is wrong with a well_formed line of that rule, whose premise fields name those.
+// What is wrong with a well-formed line of that rule, whose premise fields name those.
 fn by_rule(file: &[u8], rule: Rule, own: Judged, first: Cited, second: Cited) -> Fault
     ensures { result ≡ rule_fault file.now rule own first second }
 {

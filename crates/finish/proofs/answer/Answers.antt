@@ -1,0 +1,11 @@
+-- `finish::answer` meets its contract: nothing after a failed read, else what `answer_run` puts.
+use Rattle.answering.proofs.Failing.{failed_none, read-line}
+use Rattle.finish.proofs.answer.Goals as goal
+
+pub returns-then-failed : goal.returns-then-failed
+returns-then-failed c = failed_none c.args.failed _ c.args.out.now c.if-failed.true
+
+pub returns : goal.returns
+returns c =
+    read-line c.args.failed _ c.args.out.now c.if-failed.false
+    (rw c.asked_for.ensures at c.answer_run-answered.ensures.out_after)
