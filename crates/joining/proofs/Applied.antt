@@ -1,5 +1,4 @@
 -- A join, applied, does its second term first and then its first: nine changes, written out. The rest is of that. Assumes nothing.
-use mathlib.Core.List.{[], ◌∷◌}
 use Rattle.calculus.specs.Term.{Term}
 use Rattle.calculus.specs.Rule.{Rule}
 use Rattle.calculus.specs.Change.{Change}

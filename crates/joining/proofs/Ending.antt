@@ -1,12 +1,13 @@
 -- From what reading says and what was written to the reply and the area: each way out of `join` as one law. Assumes nothing.
 use Prim.Native.Nat.{ℕ, ◌-◌, ◌≤◌, ◌<◌}
 use native.Mathlib.Omega.{arith}
-use mathlib.Core.Path.{◌≡◌, sym, ◌∙◌, ap, ap₂}
+use mathlib.Core.Path.{◌≡◌, refl, sym, ◌∙◌, ap, ap₂}
+use mathlib.Core.Logic.{inl, inr}
 use mathlib.Core.List.{List, [], ◌∷◌, ◌++◌}
 use types.Run.{OneOf}
 use denote.Enum.Declared.{tag_of}
 use lib.ListN.{length, take, replicate}
-use Rattle.calculus.specs.Term.{Term, text, size}
+use Rattle.calculus.specs.Term.{text, size}
 use Rattle.calculus.proofs.PrefixCode.{length-text}
 use Rattle.slices.specs.Wrote.{Wrote}
 use Rattle.slices.proofs.Wrote.{wrote-zeros}
@@ -14,12 +15,20 @@ use Rattle.reading.specs.Reply.{Reply, passed_on}
 use Rattle.reading.specs.Reading.{reading_of}
 use Rattle.reading.specs.Answer.{answer_of as readingAnswer}
 use Rattle.reading.specs.declared.Reading.{Reading}
+use Rattle.reading.specs.declared.Reading.TheVariants.{Whole, NoLetter, NotWhole, Beyond}
 use Rattle.reading.specs.contracts.Reading.{the_type}
 use Rattle.reading.proofs.Terms.{whole-read, unread}
 use Rattle.joining.specs.Join.{join, join_text, join_size}
 use Rattle.joining.specs.Joining.{After, joining_of}
 use Rattle.joining.proofs.Text.{size-join, text-join}
 use Rattle.joining.proofs.Calls.{first-decides, read-decides, large-decides, small-decides}
+
+-- an answer of reading that is not the first is one of the others
+pub others-unread : (r : Reading) → ((n : ℕ) → r ≡ Whole n → ⊥) → OneOf (1 ∷ 2 ∷ 3 ∷ []) (tag_of the_type r)
+others-unread (Whole n) h = absurd (h n refl)
+others-unread (NoLetter place) h = inl refl
+others-unread (NotWhole place) h = inr (inl refl)
+others-unread (Beyond place) h = inr (inr refl)
 
 module _ (f g area : List ℕ) where
   -- what reading refuses of f
