@@ -1,4 +1,4 @@
-use Prim.Native.Nat.{ℕ, ◌+◌, ◌-◌}
+use Prim.Native.Nat.{ℕ, ◌+◌}
 use mathlib.Core.Path.{refl, sym, ◌∙◌, ap, subst}
 use native.Mathlib.Omega.{arith}
 use lib.ListN.{set, replicate, length-replicate}
@@ -30,17 +30,17 @@ overflow_add-n c =
     c.loop-at-test.true c.requires.1 in
     omega arith
 
--- clauses: answer_value claim
 pub returns-then-number-ne0 : goal.returns-then-number-ne0
 returns-then-number-ne0 c =
     let file = c.args.file.now in
-    let said = same_number file c.loop-at.starts c.loop-at.n c.loop-at.at c.type_inv.starts
+    let said = same_number file c.loop-at.starts c.loop-at.n c.loop-at.at c.six_at-line.ensures
     c.check_line-fault.ensures in
     let wrong = refused file c.loop-at.starts c.loop-at.n c.loop-at.at c.loop-at.claim c.loop-at.invariant c.requires.0
     c.loop-at-test.true c.requires.1
     (λ z. c.if-number-ne0.true (c.number.ensures ∙ said ∙ z)) in
-    refuses file c.refusal.result (BadLine c.check_line-fault.result (c.loop-at.n + 1)) (number_of c.check_line-fault.result) (c.loop-at.n + 1)
-    (check_lines 0 [] (lines file)) c.refusal.ensures refl (ap (λ (number : ℕ). Reply.refused number (c.loop-at.n + 1)) said ∙ wrong)
+    let both = refuses file c.refusal.result (BadLine c.check_line-fault.result (c.loop-at.n + 1)) (number_of c.check_line-fault.result) (c.loop-at.n + 1)
+    (check_lines 0 [] (lines file)) c.refusal.ensures refl (ap (λ (number : ℕ). Reply.refused number (c.loop-at.n + 1)) said ∙ wrong) in
+    record { answer_value = both.0; claim = both.1 }
 
 pub offset_bounds-starts-n : goal.offset_bounds-starts-n
 offset_bounds-starts-n c =
@@ -63,12 +63,12 @@ overflow_add-n-in-loop-at c =
 pub overflow_add-at : goal.overflow_add-at
 overflow_add-at c =
     let file = c.args.file.now in
-    let said = same_number file c.loop-at.starts c.loop-at.n c.loop-at.at c.type_inv.starts
+    let said = same_number file c.loop-at.starts c.loop-at.n c.loop-at.at c.six_at-line.ensures
     c.check_line-fault.ensures in
     let ends = (again file c.loop-at.starts c.loop-at.n c.loop-at.at c.loop-at.claim c.loop-at.invariant c.requires.0
     c.loop-at-test.true c.requires.1
     (sym said ∙ sym c.number.ensures ∙ c.if-number-ne0.false)).0 in
-    omega (arith, ap (λ (l : SixFields). l.second.to) c.type_inv.starts, c.well_formed.0.0)
+    omega (arith, ap (λ (l : SixFields). l.second.to) c.six_at-line.ensures, c.well_formed.0.0)
 
 pub loop-at-smaller : goal.loop-at-smaller
 loop-at-smaller c =
@@ -79,16 +79,16 @@ loop-at-smaller c =
 pub loop-at-preserved : goal.loop-at-preserved
 loop-at-preserved c =
     let file = c.args.file.now in
-    let said = same_number file c.loop-at.starts c.loop-at.n c.loop-at.at c.type_inv.starts
+    let said = same_number file c.loop-at.starts c.loop-at.n c.loop-at.at c.six_at-line.ensures
     c.check_line-fault.ensures in
     subst (λ (l : SixFields). Passed file (set c.loop-at.starts c.loop-at.n c.loop-at.at) (c.loop-at.n + 1) (l.second.to + 1) l.own)
-    (sym c.type_inv.starts)
+    (sym c.six_at-line.ensures)
     (again file c.loop-at.starts c.loop-at.n c.loop-at.at c.loop-at.claim c.loop-at.invariant c.requires.0
     c.loop-at-test.true c.requires.1
     (sym said ∙ sym c.number.ensures ∙ c.if-number-ne0.false)).1
 
--- clauses: answer_value claim
 pub returns : goal.returns
 returns c =
-    at-end c.args.file.now c.loop-at.starts c.loop-at.n c.loop-at.at c.loop-at.claim c.loop-at.invariant
-    c.loop-at-test.false
+    let both = at-end c.args.file.now c.loop-at.starts c.loop-at.n c.loop-at.at c.loop-at.claim c.loop-at.invariant
+    c.loop-at-test.false in
+    record { answer_value = both.0; claim = both.1 }
