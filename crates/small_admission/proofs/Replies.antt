@@ -3,6 +3,7 @@
 use Prim.Native.Nat.{ℕ}
 use native.Mathlib.Omega.{arith}
 use mathlib.Core.Path.{◌≡◌, refl, sym, ◌∙◌, ap}
+use mathlib.Core.Logic.{inl, inr}
 use mathlib.Core.List.{[], ◌∷◌}
 use types.Run.{OneOf, miss}
 use denote.Enum.Declared.{tag_of}
@@ -18,6 +19,18 @@ use Rattle.small_admission.proofs.Admitting.{Decided, decided}
 -- the tags of the refusals
 abbrev pub Refusal : Admission → Type 0
 Refusal a = OneOf (0 ∷ 1 ∷ 2 ∷ 3 ∷ []) (tag_of the_type a)
+
+-- each case but the last is a refusal
+pub others-refused : (a : Admission) → (a ≡ Admitted → ⊥) → Refusal a
+others-refused NotSmall h = inl refl
+others-refused FuelTooHigh h = inr (inl refl)
+others-refused AreaTooLong h = inr (inr (inl refl))
+others-refused AreaTooShort h = inr (inr (inr refl))
+others-refused Admitted h = absurd (h refl)
+
+-- and the last has the last tag
+pub last-tag : (a : Admission) → a ≡ Admitted → tag_of the_type a ≡ 4
+last-tag a e = ap (tag_of the_type) e
 
 -- a refusal has a number, at place 0
 pub reply_refused : (a : Admission) → Refusal a → (number : ℕ) × (reply_of a ≡ Reply.refused number 0)
