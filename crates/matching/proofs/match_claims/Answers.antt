@@ -1,20 +1,37 @@
 -- `matching::match_claims` meets its contract: each of its four ways out is a law of `Verdict`.
-use mathlib.Core.Path.{sym, ◌∙◌, ap}
+use Prim.Native.Nat.{ℕ}
+use mathlib.Core.Path.{◌≡◌, refl, sym, ◌∙◌, ap}
+use mathlib.Core.List.{[], ◌∷◌}
+use mathlib.Core.Logic.{inl, inr}
+use types.Run.{OneOf}
+use denote.Enum.Declared.{tag_of}
+use Rattle.checking.specs.declared.Checking.{Checking}
+use Rattle.checking.specs.declared.Checking.TheVariants.{FileTooLong, FileEmpty, NoLineEnd, TooManyLines, BadLine, Accepted}
+use Rattle.checking.specs.contracts.Checking.{the_type}
 use Rattle.reading.specs.Reply.{Reply}
 use Rattle.fields.specs.Fields.{texts_at}
 use Rattle.matching.proofs.Verdict.{first-refused, second-refused, both-answered}
 use Rattle.matching.proofs.match_claims.Goals as goal
 
+-- what is not accepted is one of the refusals
+one_refused : (found : Checking) → ((n : ℕ) → found ≡ Accepted n → ⊥) → OneOf (0 ∷ 1 ∷ 2 ∷ 3 ∷ 4 ∷ []) (tag_of the_type found)
+one_refused FileTooLong h = inl refl
+one_refused FileEmpty h = inr (inl refl)
+one_refused NoLineEnd h = inr (inr (inl refl))
+one_refused TooManyLines h = inr (inr (inr (inl refl)))
+one_refused (BadLine fault line) h = inr (inr (inr (inr refl)))
+one_refused (Accepted n) h = absurd (h n refl)
+
 pub returns-in_default : goal.returns-in_default
 returns-in_default c =
     first-refused c.args.first.now c.args.second.now c.check_claim-one.result.answer
-    c.check_claim-one.ensures.answer_value c.in_default.is
+    c.check_claim-one.ensures.answer_value (one_refused _ c.in_default.not-Accepted)
 
 pub returns-in_default-other : goal.returns-in_default-other
 returns-in_default-other c =
     second-refused c.args.first.now c.args.second.now c.check_claim-one.ensures.answer_value
     c.in-Accepted.is
-    c.check_claim-two.result.answer c.check_claim-two.ensures.answer_value c.in_default-other.is
+    c.check_claim-two.result.answer c.check_claim-two.ensures.answer_value (one_refused _ c.in_default-other.not-Accepted)
 
 pub returns-then-same_claim : goal.returns-then-same_claim
 returns-then-same_claim c =
@@ -26,8 +43,8 @@ returns-then-same_claim c =
     ∙ both-answered first second c.check_claim-one.ensures.answer_value
     c.in-Accepted.is c.check_claim-two.ensures.answer_value
     c.in-Accepted-other.is
-    one two c.same_claim.result c.check_claim-one.ensures.1
-    c.check_claim-two.ensures.1 c.same_claim.ensures
+    one two c.same_claim.result c.check_claim-one.ensures.claim
+    c.check_claim-two.ensures.claim c.same_claim.ensures
 
 pub returns : goal.returns
 returns c =
@@ -39,5 +56,5 @@ returns c =
     ∙ both-answered first second c.check_claim-one.ensures.answer_value
     c.in-Accepted.is c.check_claim-two.ensures.answer_value
     c.in-Accepted-other.is
-    one two c.same_claim.result c.check_claim-one.ensures.1
-    c.check_claim-two.ensures.1 c.same_claim.ensures
+    one two c.same_claim.result c.check_claim-one.ensures.claim
+    c.check_claim-two.ensures.claim c.same_claim.ensures
