@@ -6,7 +6,7 @@ use mathlib.Core.List.{List, []}
 use lib.ListN.{length, take, length-take}
 use lib.Seq.{length-take-le}
 use Rattle.calculus.specs.Limits.{fuel_limit}
-use Rattle.calculus.specs.Term.{Term, size}
+use Rattle.calculus.specs.Term.{Term}
 use Rattle.calculus.specs.Steps.{Steps}
 use Rattle.calculus.specs.Counts.{tally}
 use Rattle.calculus.proofs.PrefixCode.{length-text}

@@ -1,9 +1,10 @@
 -- From the rewrite, what was written and what was cleared to the reply and the areas: each way out of `advance` and of `step` as one law.
 -- Assumes nothing.
-use Prim.Native.Nat.{ℕ, ◌+◌, ◌-◌, ◌≤◌, ◌<◌}
+use Prim.Native.Nat.{ℕ, ◌-◌, ◌≤◌, ◌<◌}
 use native.Mathlib.Omega.{arith}
 use mathlib.Core.Path.{◌≡◌, refl, sym, ◌∙◌, ap, ap₂}
 use mathlib.Core.Bool.{Bool}
+use mathlib.Core.Logic.{inl, inr}
 use mathlib.Core.List.{List, [], ◌∷◌, ◌++◌}
 use types.Run.{OneOf}
 use denote.Enum.Declared.{tag_of}
@@ -20,6 +21,7 @@ use Rattle.reading.specs.Reading.{reading_of, term_read}
 use Rattle.reading.specs.Answer.{answer_of as readingAnswer}
 use Rattle.reading.specs.Area.{holding, cleared}
 use Rattle.reading.specs.declared.Reading.{Reading}
+use Rattle.reading.specs.declared.Reading.TheVariants.{Whole, NoLetter, NotWhole, Beyond}
 use Rattle.reading.specs.contracts.Reading.{the_type}
 use Rattle.reading.proofs.Terms.{whole-read, unread}
 use Rattle.rewriting.specs.declared.Rewrite.{Rewrite}
@@ -94,6 +96,13 @@ module _ {area : List ℕ} {len : ℕ} {t : Term} (h : Holds area len t) where
           ∙ sym (next-step ∙ ap (λ (b : Bool). step_to b t w.rule u area work) (le-leb _ _ small))
 
 -- ---- the ways out of `step`
+
+-- an answer of reading that is no size is one of its refusals
+pub refused-reading : (r : Reading) → ((n : ℕ) → ¬ (r ≡ Whole n)) → OneOf (1 ∷ 2 ∷ 3 ∷ []) (tag_of the_type r)
+refused-reading (Whole n) h = absurd (h n refl)
+refused-reading (NoLetter place) h = inl refl
+refused-reading (NotWhole place) h = inr (inl refl)
+refused-reading (Beyond place) h = inr (inr refl)
 
 module _ (area : List ℕ) (len : ℕ) (work : List ℕ) where
   -- 1

@@ -19,7 +19,7 @@ returns-then-w-eq-NO_RULE c =
     let cleared = c.clear.ensures in
     λ t h.
     after-normal h a.work.now (next-none (held_next h c.requires.2 c.next_rewrite-w.ensures) c.if-w-eq-NO_RULE.true)
-    cleared.0 cleared.1
+    cleared.area_after cleared.work_after
 
 pub returns-then-area-len : goal.returns-then-area-len
 returns-then-area-len c =
@@ -27,7 +27,7 @@ returns-then-area-len c =
     let makes : (t : Term) → Holds a.area.now a.len t → Makes t c.next_rewrite-w.result =
     λ t h. next-made (held_next h c.requires.2 c.next_rewrite-w.ensures) c.if-w-eq-NO_RULE.false in
     let cleared = c.clear-then-area-len.ensures in
-    λ t h. after-no-room h a.work.now (makes t h) c.growth.ensures c.if-area-len.true cleared.0 cleared.1
+    λ t h. after-no-room h a.work.now (makes t h) c.growth.ensures c.if-area-len.true cleared.area_after cleared.work_after
 
 pub returns : goal.returns
 returns c =
@@ -35,4 +35,4 @@ returns c =
     let makes : (t : Term) → Holds a.area.now a.len t → Makes t c.next_rewrite-w.result =
     λ t h. next-made (held_next h c.requires.2 c.next_rewrite-w.ensures) c.if-w-eq-NO_RULE.false in
     let written = c.write_back-size.ensures in
-    λ t h. after-step h a.work.now (makes t h) c.growth.ensures c.if-area-len.false c.requires.1 written.0 written.1
+    λ t h. after-step h a.work.now (makes t h) c.growth.ensures c.if-area-len.false c.requires.1 written.back written.work_after

@@ -3,7 +3,7 @@
 use mathlib.Core.Path.{sym, ◌∙◌, ap}
 use lib.Seq.{length-take-le}
 use Rattle.reading.specs.Answer.{answer_of as readingAnswer}
-use Rattle.stepping.proofs.Stepped.{area-refused, work-refused, length-refused, reading_refused, reading-answered}
+use Rattle.stepping.proofs.Stepped.{refused-reading, area-refused, work-refused, length-refused, reading_refused, reading-answered}
 use Rattle.stepping.proofs.step.Goals as goal
 
 pub returns-then-area-gt-AREA_LIMIT : goal.returns-then-area-gt-AREA_LIMIT
@@ -30,22 +30,20 @@ pub returns-in_default : goal.returns-in_default
 returns-in_default c =
     let a = c.args in
     reading_refused a.area.now a.len a.work.now c.if-area-gt-AREA_LIMIT.false c.if-work-area.false c.if-area-len.false
-    c.read-reading.result c.read-reading.ensures c.in_default.is
+    c.read-reading.result c.read-reading.ensures (refused-reading c.read-reading.result c.in_default.not-Whole)
 
 pub advance-requires : goal.advance-requires
 advance-requires c =
     let a = c.args in
-    let reading = c.reading-1.given in
-    let answer = ap readingAnswer (sym reading.1) ∙ c.read-reading.ensures in
+    let answer = ap readingAnswer (sym c.in-Whole.is) ∙ c.read-reading.ensures in
     let read = reading-answered a.area.now a.len a.work.now c.if-area-gt-AREA_LIMIT.false c.if-work-area.false c.if-area-len.false
-    reading.0.0 answer in
+    c.in-Whole.size answer in
     (read.1.within, c.if-work-area.false, c.if-area-gt-AREA_LIMIT.false)
 
 pub returns : goal.returns
 returns c =
     let a = c.args in
-    let reading = c.reading-1.given in
-    let answer = ap readingAnswer (sym reading.1) ∙ c.read-reading.ensures in
+    let answer = ap readingAnswer (sym c.in-Whole.is) ∙ c.read-reading.ensures in
     let read = reading-answered a.area.now a.len a.work.now c.if-area-gt-AREA_LIMIT.false c.if-work-area.false c.if-area-len.false
-    reading.0.0 answer in
+    c.in-Whole.size answer in
     c.advance.ensures read.0 read.1 ∙ sym read.2
