@@ -2,6 +2,7 @@
 use Prim.Native.Nat.{ℕ}
 use native.Mathlib.Omega.{arith}
 use mathlib.Core.Path.{◌≡◌, refl, sym, ◌∙◌}
+use mathlib.Core.Logic.{inl, inr}
 use mathlib.Core.List.{List, [], ◌∷◌}
 use types.Run.{OneOf, miss}
 use denote.Enum.Declared.{tag_of}
@@ -37,6 +38,15 @@ reply_refused (Unread reading) k = go (readingAnswer reading)
     go (Reply.refused n p) = (n, p, refl)
     go (Reply.answered n) = (0, 0, refl)
 reply_refused Admitted k = absurd (miss (0 ∷ 1 ∷ 2 ∷ 3 ∷ 4 ∷ []) 5 tt k)
+
+-- a case that is not the last is one of those
+pub refused-case : (a : Admission) → ¬ (a ≡ Admitted) → OneOf (0 ∷ 1 ∷ 2 ∷ 3 ∷ 4 ∷ []) (tag_of the_type a)
+refused-case AreaTooLong h = inl refl
+refused-case WorkTooShort h = inr (inl refl)
+refused-case LengthTooLong h = inr (inr (inl refl))
+refused-case FuelTooHigh h = inr (inr (inr (inl refl)))
+refused-case (Unread reading) h = inr (inr (inr (inr refl)))
+refused-case Admitted h = absurd (h refl)
 
 -- the last is none
 pub reply_admitted : (a : Admission) → tag_of the_type a ≡ 5 → reply_of a ≡ Reply.answered tt

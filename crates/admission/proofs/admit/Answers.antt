@@ -1,6 +1,9 @@
 -- `admission::admit` meets its contract: each way out is a law of `Admitting`.
-use mathlib.Core.Path.{sym}
+use mathlib.Core.Path.{sym, ap}
+use denote.Enum.Declared.{tag_of}
 use lib.Seq.{length-take-le}
+use Rattle.reading.specs.contracts.Reading.{the_type}
+use Rattle.stepping.proofs.Stepped.{refused-reading}
 use Rattle.admission.proofs.Admitting.{area-refused, work-refused, length-refused, fuel-refused, reading_refused, whole}
 use Rattle.admission.proofs.admit.Goals as goal
 
@@ -28,9 +31,11 @@ slice_bounds-read-end c = sym (length-take-le c.args.len c.args.area.now c.if-ar
 pub returns-in_default : goal.returns-in_default
 returns-in_default c =
     reading_refused c.args.area.now c.args.len c.args.work.now c.args.fuel c.if-area-gt-AREA_LIMIT.false
-    c.if-work-area.false c.if-area-len.false c.if-fuel-gt-FUEL_LIMIT.false c.read-reading.result c.read-reading.ensures c.in_default.is
+    c.if-work-area.false c.if-area-len.false c.if-fuel-gt-FUEL_LIMIT.false c.read-reading.result c.read-reading.ensures
+    (refused-reading c.read-reading.result c.in_default.not-Whole)
 
 pub returns : goal.returns
 returns c =
     whole c.args.area.now c.args.len c.args.work.now c.args.fuel c.if-area-gt-AREA_LIMIT.false c.if-work-area.false
-    c.if-area-len.false c.if-fuel-gt-FUEL_LIMIT.false c.read-reading.result c.read-reading.ensures c.in-Whole.is
+    c.if-area-len.false c.if-fuel-gt-FUEL_LIMIT.false c.read-reading.result c.read-reading.ensures
+    (ap (tag_of the_type) c.in-Whole.is)
