@@ -1,7 +1,5 @@
-use Prim.Native.Nat.{◌-◌}
 use native.Mathlib.Omega.{arith}
 use mathlib.Core.Path.{refl, sym, ◌∙◌}
-use borrow.Author.Tests.{not-true, not-false}
 use lib.Seq.{length-take-le}
 use Rattle.finishing.proofs.Loop.{at-start, at-few, at-addable, at-batch, at-stuck, at-no-stop, at-end}
 use Rattle.finishing.proofs.run_term.Goals as goal
@@ -17,7 +15,7 @@ slice_bounds-has_stop-end-in-loop-count c = sym (length-take-le c.loop-count.siz
 
 pub returns-then-not-has_stop : goal.returns-then-not-has_stop
 returns-then-not-has_stop c =
-    at-no-stop c.loop-count.invariant.0 (sym (not-true c.has_stop.result c.if-not-has_stop.true) ∙ c.has_stop.ensures)
+    at-no-stop c.loop-count.invariant.0 (sym c.if-not-has_stop.true ∙ c.has_stop.ensures)
 
 pub make_steps-batch-requires : goal.make_steps-batch-requires
 make_steps-batch-requires c =
@@ -29,10 +27,10 @@ make_steps-batch-requires c =
 pub returns-then-batch-eq0 : goal.returns-then-batch-eq0
 returns-then-batch-eq0 c =
     at-stuck c.loop-count.invariant.0 c.loop-count-test.true c.make_steps-batch.ensures c.if-batch-eq0.true
-    (sym (not-false c.has_stop.result c.if-not-has_stop.false) ∙ c.has_stop.ensures)
+    (sym c.if-not-has_stop.false ∙ c.has_stop.ensures)
 
 pub added-sum-requires : goal.added-sum-requires
-added-sum-requires c = at-addable c.loop-count.invariant.0 c.loop-count-test.true c.make_steps-batch.ensures c.requires.1
+added-sum-requires c = at-addable c.loop-count.invariant.0 c.loop-count-test.true c.make_steps-batch.ensures c.requires.fuel_le_fuel_limit
 
 pub overflow_add-count : goal.overflow_add-count
 overflow_add-count c = omega (arith, at-few c.loop-count.invariant.0 c.loop-count-test.true c.make_steps-batch.ensures)
