@@ -3,6 +3,7 @@ use Prim.Native.Nat.{ℕ}
 use native.Mathlib.Omega.{arith}
 use mathlib.Core.Path.{◌≡◌, refl, sym, ◌∙◌, ap, ap₂}
 use mathlib.Core.Bool.{Bool}
+use mathlib.Core.Logic.{inl, inr}
 use mathlib.Core.List.{List, [], ◌∷◌}
 use types.Run.{OneOf, miss}
 use denote.Enum.Declared.{tag_of}
@@ -20,6 +21,12 @@ finished : (o : Declared) → tag_of the_type o ≡ 0 → outcome_of o ≡ Outco
 finished Finished k = refl
 finished Spent k = absurd (omega arith)
 finished NoRoom k = absurd (omega arith)
+
+-- a case that is not the first is one of the others
+pub unfinished : (o : Declared) → ¬ (o ≡ Finished) → OneOf (1 ∷ 2 ∷ []) (tag_of the_type o)
+unfinished Finished h = absurd (h refl)
+unfinished Spent h = inl refl
+unfinished NoRoom h = inr refl
 
 -- the first was not finished
 pub first-undecided :
