@@ -1,6 +1,6 @@
 -- The dearest small term as a function and as a relation agree, and there is one. Carried by `run` being finishing's loop, by the one list
 -- of small terms, and by byte order being total. Assumes nothing.
-use Prim.Native.Nat.{ℕ, ◌-◌, ◌≤◌, ◌<◌}
+use Prim.Native.Nat.{ℕ, ◌≤◌, ◌<◌}
 use native.Mathlib.Decide.{dec_le}
 use native.Mathlib.Omega.{arith}
 use mathlib.Core.Path.{◌≡◌, refl, sym, ◌∙◌, ap, ap₂, subst}

@@ -33,6 +33,7 @@ counted r (x ∷ rs) done (Memᴰ.tail m) = go (is_outcome Outcome.finished (out
         1 ≤ length (cond b (x ∷ ending Outcome.finished rs) (ending Outcome.finished rs))
     go true h = omega arith
     go false h = h
+counted r [] done x = elim x [ ]
 
 -- of every size, with any fuel and in any area, some run finishes
 pub some-finishes : (n fuel area : ℕ) → 1 ≤ n → (t : Term) × Small n t × (outcome (run fuel area t) ≡ Outcome.finished)
@@ -105,6 +106,7 @@ all_end o (x ∷ rs) e r m = go (is_outcome o (outcome x)) refl e m (λ f k. all
     go true t f (Memᴰ.head q) rest = ap outcome q ∙ same_outcome o (outcome x) t
     go true t f (Memᴰ.tail k) rest = rest (omega arith) k
     go false t f k rest = absurd (omega (arith, ending-few o rs))
+all_end o [] e r m = elim m [ ]
 
 -- ---- how many steps there can be
 
@@ -124,6 +126,7 @@ steps-most most o (r ∷ rs) h =
 runs-fuel : (fuel area : ℕ) (ts : List Term) (r : Run) → Memᴰ r (map (run fuel area) ts) → count r ≤ fuel
 runs-fuel fuel area (t ∷ ts) r (Memᴰ.head e) = subst (λ (x : Run). count x ≤ fuel) (sym e) (count-fuel fuel area t)
 runs-fuel fuel area (t ∷ ts) r (Memᴰ.tail m) = runs-fuel fuel area ts r m
+runs-fuel fuel area [] r x = elim x [ ]
 
 -- the finished runs make no more steps than the fuel for each small term
 pub steps-fuel : (n fuel area : ℕ) → steps_of (ending Outcome.finished (map (run fuel area) (small_terms n))) ≤ fuel * length (small_terms n)

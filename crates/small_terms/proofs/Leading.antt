@@ -5,6 +5,7 @@ use native.Mathlib.Decide.{dec_le}
 use native.Mathlib.Omega.{arith}
 use mathlib.Core.Path.{◌≡◌, refl, sym, ◌∙◌, ap, subst}
 use mathlib.Core.Bool.{Bool, true, false, cond}
+use mathlib.Core.Logic.{inl, inr}
 use mathlib.Core.List.{List, [], ◌∷◌}
 use types.Run.{OneOf, miss}
 use denote.Enum.Declared.{tag_of}
@@ -170,6 +171,15 @@ module _ (n fuel area : ℕ) where
 module _ (o : Declared) (i k index least : ℕ) where
   abbrev l : Lead
   l = Lead.lead index least
+
+  -- an outcome that is not the first is one of the others
+  pub others-unfinished : (o ≡ Finished → ⊥) → OneOf (1 ∷ 2 ∷ []) (tag_of the_type o)
+  others-unfinished h = go o h
+    where
+      go : (x : Declared) → (x ≡ Finished → ⊥) → OneOf (1 ∷ 2 ∷ []) (tag_of the_type x)
+      go Finished h = absurd (h refl)
+      go Spent h = inl refl
+      go NoRoom h = inr refl
 
   -- a run that did not finish
   pub not-finished : OneOf (1 ∷ 2 ∷ []) (tag_of the_type o) → l ≡ with_later (outcome_of o) i k l

@@ -10,4 +10,4 @@ slice_bounds-write_text-end-2 c = sym (length-take-le c.args.n c.args.area.now c
 pub returns : goal.returns
 returns c =
     ran-one c.args.n c.args.index c.args.fuel c.args.area.now c.args.work.now c.requires.ready
-    c.requires.1 _ c.write_text.ensures _ _ _ _ _ _ _ c.finish-finishing.ensures.work_after c.finish-finishing.ensures.1
+    c.requires.index_bound _ c.write_text.ensures _ _ _ _ _ _ _ c.finish-finishing.ensures.work_after c.finish-finishing.ensures.bounded
