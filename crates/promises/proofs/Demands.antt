@@ -58,6 +58,7 @@ step-refused :
     step.Call area len work (stepping.After.after (Reply.refused number place) area' work') →
     StepRefuses len number place × (area' ≡ area) × (work' ≡ work)
 step-refused (step.Call.refused m) = (m, refl, refl)
+step-refused (step.made t _ _ x) = elim x [ ]
 
 step-stepped :
     {area work area' work' : List ℕ} {len rule s : ℕ} →

@@ -105,6 +105,7 @@ at-function {n} {f} {g} {a} none r =
     before : (m : ℕ) (p : Place) (v : Term) → Change m p (Term.app f a) v → ¬ Before p (Side.first ∷ [])
     before m p v (Change.here rule) Before.above = none m v rule
     before m p v (Change.in_app₁ c) (Before.inside b) = nothing-before b
+    before m _ _ (Change.in_app₂ _) x = elim x [ ]
 
 -- the way goes on, by the order and by leftmost changes alike
 goes : {t : Term} → Round t → Goes t
