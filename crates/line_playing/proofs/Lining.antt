@@ -4,6 +4,7 @@ use Prim.Native.Nat.{ℕ, suc, ◌+◌, ◌-◌, ◌≤◌, ◌<◌}
 use native.Mathlib.Omega.{arith}
 use mathlib.Core.Path.{◌≡◌, refl, sym, ◌∙◌, ap, ap₂, subst}
 use mathlib.Core.List.{List, [], ◌∷◌, ◌++◌}
+use mathlib.Core.Option.{none}
 use types.Run.{OneOf, miss}
 use denote.Enum.Declared.{tag_of}
 use borrow.Author.Tests.{lt-ltb, le-ltb}
@@ -92,7 +93,7 @@ module _
   pub spelt-made : spelled_in keys ends store piece ≡ text made
   unfolding spelled_in
   spelt-made =
-      ap (spelled_from (λ name. held_by (key_of name) keys ends store) _) playable.spelt
+      ap (spelled_from (λ name. held_by (key_of name) keys ends store) none) playable.spelt
       ∙ spelled-text (λ name. held_by (key_of name) keys ends store) (result_of results) (piece_in l) playable.well_formed.uses-named
       (λ name m. shelf_held name shelved (playable.well_formed.uses-named name m) (playable.given name m))
 
