@@ -9,4 +9,4 @@ pub slice_bounds-zero_from-end-2 : goal.slice_bounds-zero_from-end-2
 slice_bounds-zero_from-end-2 c = sym (length-take-le store_size c.args.store.now c.requires)
 
 pub returns : goal.returns
-returns c = (c.clear.ensures.area_after, c.clear.ensures.1, emptied_by _ c.args.store.now c.requires c.zero_from.ensures)
+returns c = (c.clear.ensures.area_after, c.clear.ensures.work_after, emptied_by _ c.args.store.now c.requires c.zero_from.ensures)

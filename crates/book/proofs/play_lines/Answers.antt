@@ -1,10 +1,23 @@
-use Prim.Native.Nat.{◌+◌, ◌-◌}
-use mathlib.Core.Path.{refl, sym, ◌∙◌, ap}
+use Prim.Native.Nat.{◌+◌}
+use mathlib.Core.Path.{◌≡◌, refl, sym, ◌∙◌, ap}
+use mathlib.Core.Logic.{inl, inr}
+use mathlib.Core.List.{[], ◌∷◌}
 use native.Mathlib.Omega.{arith}
+use types.Run.{OneOf}
+use denote.Enum.Declared.{tag_of}
 use lib.Seq.{length-take-le}
+use Rattle.finishing.specs.declared.Outcome.{Outcome}
+use Rattle.finishing.specs.declared.Outcome.TheVariants.{Finished, Spent, NoRoom}
+use Rattle.finishing.specs.contracts.Outcome.{the_type}
 use Rattle.book_lines.specs.Fault.{piece_field}
 use Rattle.book.proofs.Walking.{next, walk_start, walk-few, walk-table, walk-line-ends, walk-room, walk-playable, walk-left, walk-gave, walk-on, walk_end}
 use Rattle.book.proofs.play_lines.Goals as goal
+
+-- a line that did not finish ended in one of the two other ways
+others : (o : Outcome) → (o ≡ Finished → ⊥) → OneOf (1 ∷ 2 ∷ []) (tag_of the_type o)
+others Finished h = absurd (h refl)
+others Spent h = inl refl
+others NoRoom h = inr refl
 
 pub loop-at-init : goal.loop-at-init
 loop-at-init c =
@@ -27,7 +40,7 @@ slice_bounds-ends-end c =
 pub slice_bounds-play_line-end-in-loop-at : goal.slice_bounds-play_line-end-in-loop-at
 slice_bounds-play_line-end-in-loop-at c =
     sym
-    (length-take-le (c.loop-at.count + 1) c.loop-at.ends (omega (arith, walk-room c.loop-at.invariant c.loop-at-test.true c.find_from-feed.result c.find_from-feed.ensures, c.loop-at.invariant.ends_long)))
+    (length-take-le (c.loop-at.count + 1) c.loop-at.ends (omega (arith, walk-room c.loop-at.invariant c.loop-at-test.true c.find_from-feed.result c.find_from-feed.ensures, c.loop-at.invariant.ends-long)))
 
 pub overflow_add-count : goal.overflow_add-count
 overflow_add-count c = omega (arith, walk-few c.loop-at.invariant)
@@ -43,7 +56,7 @@ returns-in_default c =
     let left =
     c.play_line-line.ensures walked.earlier walked.results (next walked more feed found).l walked.lent walked.shelved
     (walk-playable walked more feed found c.piece_of.result.now piece) in
-    walk-left walked more feed found line.outcome (c.loop-at.count + 1) line.size _ _ c.in_default.is left refl
+    walk-left walked more feed found line.outcome (c.loop-at.count + 1) line.size _ _ (others line.outcome c.in_default.not-Finished) left refl
 
 pub overflow_add-used : goal.overflow_add-used
 overflow_add-used c =
@@ -67,7 +80,7 @@ offset_bounds-ends-count c =
 pub bounds-ends-count : goal.bounds-ends-count
 bounds-ends-count c =
     omega
-    (arith, walk-room c.loop-at.invariant c.loop-at-test.true c.find_from-feed.result c.find_from-feed.ensures, c.loop-at.invariant.ends_long)
+    (arith, walk-room c.loop-at.invariant c.loop-at-test.true c.find_from-feed.result c.find_from-feed.ensures, c.loop-at.invariant.ends-long)
 
 pub overflow_add-at : goal.overflow_add-at
 overflow_add-at c =
@@ -90,9 +103,9 @@ loop-at-preserved c =
     let left =
     c.play_line-line.ensures walked.earlier walked.results (next walked more feed found).l walked.lent walked.shelved
     (walk-playable walked more feed found c.piece_of.result.now piece) in
-    let kept = c.play_line-line.auto.1.1.1 in
     let gave = walk-gave walked more feed found line.outcome line.size _ _ c.in-Finished.is left in
-    walk-on walked more feed found line.size _ _ _ _ gave refl kept.0 kept.1.0 kept.1.1.0
+    walk-on walked more feed found line.size _ _ _ _ gave refl c.play_line-line.auto.area c.play_line-line.auto.work
+    c.play_line-line.auto.store
 
 pub returns : goal.returns
 returns c = walk_end c.loop-at.invariant (omega (arith, c.loop-at-test.false))

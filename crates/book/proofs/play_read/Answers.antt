@@ -11,4 +11,4 @@ returns c =
     c.play_lent-end.result.size _ _ _ _
     c.play_lent-end.ensures.play_left c.play_lent-end.auto.area c.clear.ensures.0
     (c.clear.ensures.1 ∙ ap (λ (n : ℕ). replicate n 0) c.play_lent-end.auto.work)
-    (c.clear.ensures.2 ∙ c.play_lent-end.ensures.1)
+    (c.clear.ensures.2 ∙ c.play_lent-end.ensures.behind)
