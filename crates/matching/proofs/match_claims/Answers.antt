@@ -1,26 +1,10 @@
 -- `matching::match_claims` meets its contract: each of its four ways out is a law of `Verdict`.
-use Prim.Native.Nat.{ℕ}
-use mathlib.Core.Path.{◌≡◌, refl, sym, ◌∙◌, ap}
-use mathlib.Core.List.{[], ◌∷◌}
-use mathlib.Core.Logic.{inl, inr}
-use types.Run.{OneOf}
-use denote.Enum.Declared.{tag_of}
-use Rattle.checking.specs.declared.Checking.{Checking}
-use Rattle.checking.specs.declared.Checking.TheVariants.{FileTooLong, FileEmpty, NoLineEnd, TooManyLines, BadLine, Accepted}
-use Rattle.checking.specs.contracts.Checking.{the_type}
+use mathlib.Core.Path.{sym, ◌∙◌, ap}
 use Rattle.reading.specs.Reply.{Reply}
 use Rattle.fields.specs.Fields.{texts_at}
+use Rattle.checking.proofs.Refused.{one_refused}
 use Rattle.matching.proofs.Verdict.{first-refused, second-refused, both-answered}
 use Rattle.matching.proofs.match_claims.Goals as goal
-
--- what is not accepted is one of the refusals
-one_refused : (found : Checking) → ((n : ℕ) → found ≡ Accepted n → ⊥) → OneOf (0 ∷ 1 ∷ 2 ∷ 3 ∷ 4 ∷ []) (tag_of the_type found)
-one_refused FileTooLong h = inl refl
-one_refused FileEmpty h = inr (inl refl)
-one_refused NoLineEnd h = inr (inr (inl refl))
-one_refused TooManyLines h = inr (inr (inr (inl refl)))
-one_refused (BadLine fault line) h = inr (inr (inr (inr refl)))
-one_refused (Accepted n) h = absurd (h n refl)
 
 pub returns-in_default : goal.returns-in_default
 returns-in_default c =
