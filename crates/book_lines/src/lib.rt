@@ -43,6 +43,7 @@ fn is_small(b: u8) -> bool
 }
 
 // Whether bytes are a name.
+#[tactic(auto, using(crate::proofs::Naming::no_name))]
 pub fn is_name(s: &[u8]) -> bool
     ensures { result ≡ is_name s.now }
 {

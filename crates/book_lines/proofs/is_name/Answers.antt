@@ -1,16 +1,13 @@
 use mathlib.Core.Path.{sym, ◌∙◌}
 use native.Mathlib.Omega.{arith}
-use Rattle.book_lines.proofs.Naming.{no_name, long-name, name-start, not-small, one-small, small-end}
+use Rattle.book_lines.proofs.Naming.{long-name, name-start, not-small, one-small, small-end}
 use Rattle.book_lines.proofs.is_name.Goals as goal
-
-pub returns-then-s-eq0 : goal.returns-then-s-eq0
-returns-then-s-eq0 c = no_name c.args.s.now (omega arith)
 
 pub returns-then-s-gt-NAME_LIMIT : goal.returns-then-s-gt-NAME_LIMIT
 returns-then-s-gt-NAME_LIMIT c = long-name c.args.s.now (omega arith)
 
 pub loop-at-init : goal.loop-at-init
-loop-at-init c = (omega arith, name-start c.args.s.now (omega (arith, c.if-s-eq0.false)) (omega arith))
+loop-at-init c = (omega arith, name-start c.args.s.now (omega arith) (omega arith))
 
 pub returns-then-not-is_small : goal.returns-then-not-is_small
 returns-then-not-is_small c =
