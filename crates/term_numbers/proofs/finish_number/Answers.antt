@@ -3,7 +3,7 @@ use mathlib.Core.Path.{◌∙◌, sym}
 use Rattle.codes.specs.Encoding.{finish_number, run_parts}
 use Rattle.finishing.specs.Answer.{ran_of}
 use Rattle.codes.proofs.Refusals.{coded_refusal}
-use Rattle.term_numbers.proofs.Refusals.{finishing_refusal}
+use Rattle.term_numbers.proofs.Refusals.{others_finishing, finishing_refusal}
 use Rattle.term_numbers.proofs.finish_number.Goals as goal
 
 pub returns-in-Admitted : goal.returns-in-Admitted
@@ -14,4 +14,6 @@ pub returns-in_default : goal.returns-in_default
 unfolding finish_number
 returns-in_default c =
     c.wide.ensures
-    ∙ coded_refusal (λ done. run_parts (ran_of c.args.run)) _ (finishing_refusal c.args.admission c.in_default.is) c.number.ensures c.place.ensures
+    ∙ coded_refusal (λ done. run_parts (ran_of c.args.run)) _
+    (finishing_refusal c.args.admission (others_finishing c.args.admission c.in_default.not-Admitted))
+    c.number.ensures c.place.ensures

@@ -2,7 +2,7 @@
 use mathlib.Core.Path.{◌∙◌}
 use Rattle.codes.specs.Encoding.{join_number, join_parts}
 use Rattle.codes.proofs.Refusals.{coded_refusal}
-use Rattle.term_numbers.proofs.Refusals.{joining_refusal}
+use Rattle.term_numbers.proofs.Refusals.{others_joining, joining_refusal}
 use Rattle.term_numbers.proofs.join_number.Goals as goal
 
 pub returns-in-Joined : goal.returns-in-Joined
@@ -14,5 +14,5 @@ unfolding join_number
 returns-in_default c =
     c.wide.ensures
     ∙ coded_refusal join_parts _
-    (joining_refusal c.args.answer c.in_default.is)
+    (joining_refusal c.args.answer (others_joining c.args.answer c.in_default.not-Joined))
     c.number.ensures c.place.ensures

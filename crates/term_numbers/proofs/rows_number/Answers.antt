@@ -2,7 +2,7 @@
 use mathlib.Core.Path.{◌∙◌}
 use Rattle.codes.specs.Encoding.{rows_number, rows_parts}
 use Rattle.codes.proofs.Refusals.{coded_refusal}
-use Rattle.term_numbers.proofs.Refusals.{ringing_refusal}
+use Rattle.term_numbers.proofs.Refusals.{others_ringing, ringing_refusal}
 use Rattle.term_numbers.proofs.rows_number.Goals as goal
 
 pub returns-in-Rows : goal.returns-in-Rows
@@ -14,5 +14,5 @@ unfolding rows_number
 returns-in_default c =
     c.wide.ensures
     ∙ coded_refusal rows_parts _
-    (ringing_refusal c.args.answer c.in_default.is)
+    (ringing_refusal c.args.answer (others_ringing c.args.answer c.in_default.not-Rows))
     c.number.ensures c.place.ensures

@@ -2,7 +2,7 @@
 use mathlib.Core.Path.{◌∙◌}
 use Rattle.codes.specs.Encoding.{step_number, step_parts}
 use Rattle.codes.proofs.Refusals.{coded_refusal}
-use Rattle.term_numbers.proofs.Refusals.{stepping_refusal}
+use Rattle.term_numbers.proofs.Refusals.{others_stepping, stepping_refusal}
 use Rattle.term_numbers.proofs.step_number.Goals as goal
 
 pub returns-in-Normal : goal.returns-in-Normal
@@ -21,4 +21,6 @@ pub returns-in_default : goal.returns-in_default
 unfolding step_number
 returns-in_default c =
     c.wide.ensures
-    ∙ coded_refusal step_parts _ (stepping_refusal c.args.answer c.in_default.is) c.number.ensures c.place.ensures
+    ∙ coded_refusal step_parts _
+    (stepping_refusal c.args.answer (others_stepping c.args.answer c.in_default.not-Normal c.in_default.not-NoRoom c.in_default.not-Done))
+    c.number.ensures c.place.ensures
