@@ -3,12 +3,13 @@
 use Prim.Native.Nat.{ℕ, ◌≤◌, min}
 use native.Mathlib.Decide.{dec_le}
 use native.Mathlib.Omega.{arith}
-use mathlib.Core.Path.{◌≡◌, sym, ◌∙◌, ap, ap₂}
+use mathlib.Core.Path.{◌≡◌, refl, sym, ◌∙◌, ap, ap₂}
 use mathlib.Core.Bool.{Bool}
 use mathlib.Core.List.{List, ◌++◌}
 use lib.ListN.{length, take, drop, length-take, drop_of_length-le}
 use lib.Seq.{take_all, take_at}
 use Rattle.finish_line.specs.declared.Asked.{Asked}
+use Rattle.finish_line.specs.declared.Asked.TheVariants.{OtherShape, Request}
 use Rattle.slices.proofs.Appending.{Appends}
 use Rattle.reading.specs.Reply.{Reply}
 use Rattle.finishing.specs.Finishing.{Ran, After, counts_of, finishing_of}
@@ -78,6 +79,11 @@ request_answers fuel area len term work n m reply r area' work' out k out' ran e
         (made ∙ ap ran_in fronts, ap uses_in fronts),
       ),
     )
+
+-- what is no request has another shape
+pub no_request : (a : Asked) → ((fuel area len : ℕ) → a ≡ Request fuel area len → ⊥) → a ≡ OtherShape
+no_request OtherShape h = refl
+no_request (Request fuel area len) h = absurd (h fuel area len refl)
 
 -- what is said of a request is said of what asks for it
 pub asked_answers :

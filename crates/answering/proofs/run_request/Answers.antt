@@ -18,11 +18,12 @@ slice_bounds-print_finishing-end-2 c =
     front_length c.args.area c.args.term.now c.least-n.result c.finish-finishing.new.area
     c.least-n.ensures c.finish-finishing.auto.area
 
--- clauses: out_after lent used
 pub returns : goal.returns
 returns c =
+    let left =
     request_answers c.args.fuel c.args.area c.args.length c.args.term.now c.args.work.now
     c.least-n.result c.least-m.result (reply_of c.finish-finishing.result.admission)
     (ran_of c.finish-finishing.result.run) c.finish-finishing.new.area c.finish-finishing.new.work _ _ _ c.is_admitted.result
     c.least-n.ensures c.least-m.ensures c.finish-finishing.auto.area c.finish-finishing.ensures.work_after
-    c.print_finishing-size.ensures c.is_admitted.ensures
+    c.print_finishing-size.ensures c.is_admitted.ensures in
+    record { out_after = left.0; lent = left.1.0; used = left.1.1 }
