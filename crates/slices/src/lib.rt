@@ -41,6 +41,7 @@ pub fn find(s: &[u8], b: u8) -> usize
 }
 
 // Whether every byte is 0. It has no way out before the end, so that the compiler looks at many bytes at once.
+#[tactic(auto, using(crate::proofs::Zeros::zeros_step))]
 pub fn is_zeros(s: &[u8]) -> bool
     ensures { result ≡ same s.now (replicate (length s.now) 0) }
 {

@@ -1,4 +1,3 @@
-use Prim.Native.Nat.{◌-◌}
 use native.Mathlib.Omega.{arith}
 use Rattle.slices.proofs.Finding.{index-here, index-later, index_end}
 use Rattle.slices.proofs.find.Goals as goal
