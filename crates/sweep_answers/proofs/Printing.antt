@@ -3,6 +3,8 @@ use Prim.Native.Nat.{ℕ, ◌≤◌}
 use mathlib.Core.Path.{◌≡◌, refl, sym, ◌∙◌, ap, ap₂}
 use Rattle.reading.specs.Reply.{Reply, number_in, place_in}
 use Rattle.answer_lines.specs.Shown.{refused_line}
+use Rattle.sweep_line.specs.declared.Asked.{Asked}
+use Rattle.sweep_line.specs.declared.Asked.TheVariants.{OtherShape, Request}
 use Rattle.small_terms.specs.Sweep.{sweep_of}
 use Rattle.small_admission.specs.Answer.{reply_of}
 use Rattle.small_terms.specs.Answer.{swept_in, answer_of}
@@ -13,6 +15,11 @@ use Rattle.small_terms.specs.declared.Sweeping.{Sweeping}
 use Rattle.small_terms.specs.declared.Sweeping.TheVariants.{Refused, Swept as Came}
 use Rattle.small_terms.proofs.Sweeps.{never_none}
 use Rattle.sweep_answers.specs.Shown.{refusal_line, swept_line, shown_sweep}
+
+-- what is no request has another shape
+pub no_request : (a : Asked) → ((size fuel area : ℕ) → a ≡ Request size fuel area → ⊥) → a ≡ OtherShape
+no_request OtherShape h = refl
+no_request (Request size fuel area) h = absurd (h size fuel area refl)
 
 -- no refusal has a place of its own
 no_place : (a : Admission) → 0 ≡ place_in (reply_of a)
