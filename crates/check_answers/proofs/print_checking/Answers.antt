@@ -2,6 +2,7 @@
 use mathlib.Core.Path.{sym, ap}
 use Rattle.checking.specs.Answer.{answer_of}
 use Rattle.checking.specs.declared.Checking.{Checking}
+use Rattle.checking.proofs.Refused.{one_refused}
 use Rattle.answer_lines.specs.Shown.{shown_check}
 use Rattle.answer_lines.proofs.Printing.{prints}
 use Rattle.check_answers.proofs.Checked.{checking_refused}
@@ -9,7 +10,7 @@ use Rattle.check_answers.proofs.print_checking.Goals as goal
 
 pub returns-in_default : goal.returns-in_default
 returns-in_default c =
-    let refused = c.in_default.is in
+    let refused = one_refused c.args.answer c.in_default.not-Accepted in
     prints _ _ _ (checking_refused c.args.answer c.number.result c.place.result refused c.number.ensures c.place.ensures)
     c.print_numbers.ensures
 
