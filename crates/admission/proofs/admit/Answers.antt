@@ -1,4 +1,5 @@
 -- `admission::admit` meets its contract: each way out is a law of `Admitting`.
+use native.Mathlib.Omega.{arith}
 use mathlib.Core.Path.{sym, ap}
 use denote.Enum.Declared.{tag_of}
 use lib.Seq.{length-take-le}
@@ -23,7 +24,7 @@ returns-then-area-len c =
 pub returns-then-fuel-gt-FUEL_LIMIT : goal.returns-then-fuel-gt-FUEL_LIMIT
 returns-then-fuel-gt-FUEL_LIMIT c =
     fuel-refused c.args.area.now c.args.len c.args.work.now c.args.fuel c.if-area-gt-AREA_LIMIT.false
-    c.if-work-area.false c.if-area-len.false c.if-fuel-gt-FUEL_LIMIT.true
+    c.if-work-area.false (omega arith) c.if-fuel-gt-FUEL_LIMIT.true
 
 pub slice_bounds-read-end : goal.slice_bounds-read-end
 slice_bounds-read-end c = sym (length-take-le c.args.len c.args.area.now c.if-area-len.false)

@@ -1,5 +1,6 @@
 -- `stepping::step` meets its contract: each refusal is a law of `Stepped`, and what reading answers is handed to `advance`. Assumes
 -- nothing.
+use native.Mathlib.Omega.{arith}
 use mathlib.Core.Path.{sym, ◌∙◌, ap}
 use lib.Seq.{length-take-le}
 use Rattle.reading.specs.Answer.{answer_of as readingAnswer}
@@ -14,7 +15,7 @@ returns-then-area-gt-AREA_LIMIT c =
 pub returns-then-work-area : goal.returns-then-work-area
 returns-then-work-area c =
     let a = c.args in
-    work-refused a.area.now a.len a.work.now c.if-area-gt-AREA_LIMIT.false c.if-work-area.true
+    work-refused a.area.now a.len a.work.now (omega arith) c.if-work-area.true
 
 pub returns-then-area-len : goal.returns-then-area-len
 returns-then-area-len c =
