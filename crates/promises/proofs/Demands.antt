@@ -4,7 +4,7 @@ use native.Mathlib.Omega.{arith}
 use mathlib.Core.Path.{◌≡◌, refl, sym, ◌∙◌, ap, subst, subst₂}
 use mathlib.Core.Logic.{◌↔◌, ◌⊎◌, inl, inr, ⊎_elim}
 use mathlib.Core.List.Memᴰ
-use mathlib.Core.List.{List, [], ◌∷◌, ◌++◌}
+use mathlib.Core.List.{List, ◌∷◌, ◌++◌}
 use lib.ListN.{length, take, drop, length-append}
 use lib.Seq.{take_at}
 use Rattle.calculus.specs.Term.{Term, text, size, Normal}
@@ -29,10 +29,8 @@ use Rattle.counting.specs.Counting as counting
 use Rattle.counting.proofs.Calls as counted
 use Rattle.verdicts.specs.Comparing as comparing
 use Rattle.verdicts.proofs.Calls as compare
-use Rattle.joining.specs.Joining as joining
 use Rattle.joining.specs.Joins.{JoinsAs}
 use Rattle.joining.proofs.Calls.{joins_exactly}
-use Rattle.rows.specs.Ringing as ringing
 use Rattle.rows.specs.RingsAs.{RingsAs}
 use Rattle.rows.proofs.Exactly.{rings_exactly}
 use Rattle.entries.proofs.Exactly.{entering_refuses, enters_exactly}

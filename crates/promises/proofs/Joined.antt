@@ -1,5 +1,5 @@
 -- What joins do: by the laws of `joining`, and by what the order finds. Assumes nothing.
-use mathlib.Core.Path.{◌≡◌, refl, sym, ◌∙◌, ap}
+use mathlib.Core.Path.{◌≡◌, refl, sym, ◌∙◌}
 use mathlib.Core.Logic.{◌↔◌}
 use mathlib.Core.List.{◌++◌, append_assoc}
 use Rattle.calculus.specs.Ascii.{ascii}

@@ -107,6 +107,10 @@ at-function {n} {f} {g} {a} none r =
     before m p v (Change.in_app₁ c) (Before.inside b) = nothing-before b
     before m _ _ (Change.in_app₂ _) x = elim x [ ]
 
+-- no rule fits an application whose function is itself an application of a pair
+no-rule : {m : ℕ} {t a v : Term} → ¬ Rule m (Term.app (Term.app (Term.B t Term.I) Term.J) a) v
+no-rule r = elim r [ ]
+
 -- the way goes on, by the order and by leftmost changes alike
 goes : {t : Term} → Round t → Goes t
 goes (Round.applied Yields.itself y) =
@@ -116,7 +120,7 @@ goes (Round.applied (Yields.looked_up x) y) =
       rule = 6;
       to = _;
       is-next = refl;
-      leftmost = at-function (λ m v r. elim r [ ]) Rule.rule_6;
+      leftmost = at-function (λ m v r. no-rule r) Rule.rule_6;
       round = Round.applied x y;
     }
 goes (Round.entered x) =
@@ -152,9 +156,9 @@ leftmost-inside {t} {u} l =
 -- leftmost changes stay in the first part of the pair, and on the way
 stays : {t w v : Term} → Round t → w ≡ example_8_with t → ByLeftmost w v → (u : Term) × Round u × (v ≡ example_8_with u)
 stays x e ByLeftmost.unchanged = (_, x, e)
-stays x e (ByLeftmost.onwards {u = u} l rest) =
+stays {t = t} x e (ByLeftmost.onwards {u = u} l rest) =
     let g = goes x in
-    stays g.round (leftmost-once (subst (λ (w : Term). Leftmost w u) e l) (leftmost-inside g.leftmost)) rest
+    stays {t = g.to} g.round (leftmost-once (subst (λ (w : Term). Leftmost w u) e l) (leftmost-inside g.leftmost)) rest
 
 overlooks : (v : Term) → ByLeftmost example_8 v → (¬ Normal v) × ((w : Term) × Leftmost v w)
 overlooks v h =

@@ -1,6 +1,6 @@
 -- What joins do (REQUIREMENTS, Joining), of the very term that joining writes: `join` of joining/specs/Join.antt, which its definition and
 -- `JoinsAs` name. `joined` of proofs/Joined.antt is the proof.
-use Rattle.std.specs.Prelude.{ℕ, ◌+◌, ◌≡◌, ◌↔◌, ◌++◌}
+use Rattle.std.specs.Prelude.{◌+◌, ◌≡◌, ◌↔◌, ◌++◌}
 use Rattle.calculus.specs.Ascii.{ascii}
 use Rattle.calculus.specs.Bell.{Row}
 use Rattle.calculus.specs.Term.{Term, text, size, Normal}
