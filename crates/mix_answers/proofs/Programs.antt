@@ -1,6 +1,6 @@
 -- The program's definition on the whole input: what `answer_mix` puts for a line that was fed the input, in chunks cut anywhere, with
 -- zeroed buffers, is `mix_program` of the input. Assumes nothing.
-use Prim.Native.Nat.{ℕ, ◌+◌, ◌≤◌, ◌<◌}
+use Prim.Native.Nat.{ℕ, ◌≤◌}
 use native.Mathlib.Omega.{arith}
 use mathlib.Core.Path.{◌≡◌, refl, ◌∙◌, ap}
 use mathlib.Core.Bool.{Bool, true, false}
