@@ -1,6 +1,5 @@
 -- `reducing::next_rewrite` meets its contract: without a full stop there is no rule, and else the table is as long as the text or longer.
---
-use native.Mathlib.Omega.{arith}
+use borrow.Author.Rules.{rules}
 use Rattle.reducing.specs.Makes.{NextBy}
 use Rattle.reducing.proofs.Makes.{nothing-next}
 use Rattle.reducing.proofs.next_rewrite.Goals as goal
@@ -14,16 +13,16 @@ returns-then-first-s c =
 
 pub returns-then-s-le-FEW : goal.returns-then-s-le-FEW
 returns-then-s-le-FEW c =
-    λ t e short. NextBy.makes (c.rewrite_in.ensures (omega arith) t e short c.find-first.ensures c.if-first-s.false)
+    λ t e short. NextBy.makes (search rules)
 
 pub returns-then-s-le-SOME : goal.returns-then-s-le-SOME
 returns-then-s-le-SOME c =
-    λ t e short. NextBy.makes (c.rewrite_in-then-s-le-SOME.ensures (omega arith) t e short c.find-first.ensures c.if-first-s.false)
+    λ t e short. NextBy.makes (search rules)
 
 pub returns-then-s-le-MANY : goal.returns-then-s-le-MANY
 returns-then-s-le-MANY c =
-    λ t e short. NextBy.makes (c.rewrite_in-then-s-le-MANY.ensures (omega arith) t e short c.find-first.ensures c.if-first-s.false)
+    λ t e short. NextBy.makes (search rules)
 
 pub returns : goal.returns
 returns c =
-    λ t e short. NextBy.makes (c.rewrite_in-2.ensures (omega arith) t e short c.find-first.ensures c.if-first-s.false)
+    λ t e short. NextBy.makes (search rules)
