@@ -50,6 +50,7 @@ fn is_small_size(n: u64) -> bool
 }
 
 // Whether a call is refused.
+#[tactic(auto, unfolding(crate::specs::Admission::admitted))]
 pub fn admit(n: u64, fuel: u64, area: u64) -> Admission
     ensures { reply_of result ≡ admitted n fuel area }
 {
