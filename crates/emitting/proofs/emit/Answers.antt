@@ -21,16 +21,16 @@ pub link-requires : goal.link-requires
 link-requires c =
     record {
       free = c.requires.room;
-      short = (omega (arith, c.first_in-first.ensures, c.second_in-second.ensures), omega (arith, list_inside c.requires, c.requires.room.few));
+      short = (omega arith, omega (arith, list_inside c.requires, c.requires.room.few));
     }
 
 pub returns-then-arity-eq2 : goal.returns-then-arity-eq2
 returns-then-arity-eq2 c =
     record {
-      emitted = emitted-two c.requires c.letter_in-letter.result c.letter_in-letter.ensures c.arity.result c.arity.ensures c.first_in-first.result c.second_in-second.result c.link.new.cells
-          c.if-arity-eq2.true c.first_in-first.ensures c.second_in-second.ensures c.link.ensures;
-      bare = λ e. bare-two c.requires c.letter_in-letter.result c.letter_in-letter.ensures c.arity.result c.arity.ensures c.second_in-second.result c.link.new.cells
-          c.if-arity-eq2.true c.second_in-second.ensures c.link.ensures;
+      emitted = emitted-two c.requires c.letter_in-letter.result c.letter_in-letter.ensures c.arity.result c.arity.ensures _ _ c.link.new.cells c.if-arity-eq2.true
+          (assumption) (assumption) c.link.ensures;
+      bare = λ e. bare-two c.requires c.letter_in-letter.result c.letter_in-letter.ensures c.arity.result c.arity.ensures _ c.link.new.cells c.if-arity-eq2.true
+          (assumption) c.link.ensures;
     }
 
 pub returns-then-list-eq0 : goal.returns-then-list-eq0
