@@ -5,7 +5,7 @@ usage: tools/respell.py [--list]      at the top of the repository; --list print
 
 Words are in snake case: `byteIn` becomes `byte_in`. A dash stays where it joins two names, of definitions, constructors, types or of the
 library, as in `letter_of-byte`; a plain word is added with `_`, as in `end_some`. Types, modules, functions of src/, and names that a file
-takes from the library stay. Texts of must-fail edits are not turned here. It stops where two names would fall together.
+takes from the library stay. Texts of must-fail edits are not turned here. It names what would fall together on standard error.
 """
 
 import glob
