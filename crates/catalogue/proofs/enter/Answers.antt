@@ -39,4 +39,4 @@ enter_result-requires c =
     ready c.args.term.now c.args.store.now (omega (arith, c.if-store-lt-STORE_SIZE.false)) c.keeps-kept.result
     c.keeps-kept.ensures c.in-Results.count c.in-Results.used c.in-Results.is
     c.in-Whole.field-0 (ap readingAnswer (sym c.in-Whole.is) ∙ c.read-reading.ensures)
-    (sym c.has_stop.ensures ∙ c.if-has_stop.false)
+    (sym c.has_stop.ensures ∙ (assumption))
