@@ -1,13 +1,17 @@
--- The number and the place of each case of admission's answer (REQUIREMENTS, Finishing).
+-- The number and the place of each case that admission refuses, and what it answers (REQUIREMENTS, Finishing).
+use Rattle.std.specs.Prelude.{Result, Ok, Err}
 use Rattle.reading.specs.Reply.{Reply, passed_on}
-use Rattle.reading.specs.Answer.{answer_of as readingAnswer}
-use Rattle.admission.specs.declared.Admission.{Admission}
-use Rattle.admission.specs.declared.Admission.TheVariants.{AreaTooLong, WorkTooShort, LengthTooLong, FuelTooHigh, Unread, Admitted}
+use Rattle.reading.specs.Answer.{refusal_of as misread_of}
+use Rattle.admission.specs.declared.Refused.{Refused}
+use Rattle.admission.specs.declared.Refused.TheVariants.{AreaTooLong, WorkTooShort, LengthTooLong, FuelTooHigh, Unread}
 
-abbrev pub reply_of : Admission → Reply Unit
-reply_of AreaTooLong = Reply.refused 1 0
-reply_of WorkTooShort = Reply.refused 2 0
-reply_of LengthTooLong = Reply.refused 3 0
-reply_of FuelTooHigh = Reply.refused 4 0
-reply_of (Unread reading) = passed_on (readingAnswer reading)
-reply_of Admitted = Reply.answered tt
+abbrev pub refusal_of : Refused → Reply ⊥
+refusal_of AreaTooLong = Reply.refused 1 0
+refusal_of WorkTooShort = Reply.refused 2 0
+refusal_of LengthTooLong = Reply.refused 3 0
+refusal_of FuelTooHigh = Reply.refused 4 0
+refusal_of (Unread misread) = misread_of misread
+
+abbrev pub answer_of : Result Unit Refused → Reply Unit
+answer_of (Ok done) = Reply.answered tt
+answer_of (Err refused) = passed_on (refusal_of refused)

@@ -2,7 +2,7 @@
 use Rattle.std.specs.Prelude.{ℕ, List, take}
 use Rattle.calculus.specs.Run.{Outcome}
 use Rattle.calculus.specs.Ascii.{ascii}
-use Rattle.reading.specs.Reply.{Reply}
+use Rattle.reading.specs.Reply.{Reply, number_in, place_in}
 use Rattle.finishing.specs.Finishing.{Ran, After}
 use Rattle.printing.specs.Printed.{line_of, numbers_of, count_of}
 
@@ -14,6 +14,10 @@ word Outcome.no_room = ascii "no room"
 -- a refusal's number and its place or line
 abbrev pub refused_line : (number place : ℕ) → List ℕ
 refused_line number place = numbers_of (ascii "refused") number place
+
+-- the line of a refusal alone
+abbrev pub refusal_line : {X : Type 0} → Reply X → List ℕ
+refusal_line reply = refused_line (number_in reply) (place_in reply)
 
 -- a run's outcome and count, and the term now in the area
 abbrev pub ran_line : Ran → (area : List ℕ) → List ℕ

@@ -1,4 +1,3 @@
-pub mod Failing
 pub mod Requests
 pub mod Ranges
 pub mod Caps

@@ -7,6 +7,7 @@ use mathlib.Core.Path.{◌≡◌, sym, ◌∙◌, ap, ap₂}
 use mathlib.Core.Bool.{Bool, true, false}
 use mathlib.Core.List.{List, []}
 use mathlib.Core.Option.{Option, none, some}
+use Rattle.std.specs.Prelude.{Option as Perhaps}
 use borrow.Author.Tests.{lt-ltb}
 use lib.ListN.{length, take, length-take}
 use lib.Seq.{take_all}
@@ -18,7 +19,7 @@ use Rattle.finish_line.specs.Request.{request_of}
 use Rattle.finish_line.specs.Request.{Request as Wanted}
 use Rattle.finish_line.specs.Answer.{asked_of}
 use Rattle.line_states.specs.Fed.{number_cap, length_cap}
-use Rattle.finish_line.specs.declared.Asked.{Asked}
+use Rattle.finish_line.specs.declared.Request.{Request as Asked}
 use Rattle.line_chunks.proofs.Says.{input_of, after}
 use Rattle.finish_line.proofs.Asks.{Answers, line-answers}
 use Rattle.answer_lines.specs.Shown.{shown_run, shown_check}
@@ -33,14 +34,14 @@ use Rattle.answering.proofs.Verdicts.{check_program_length}
 module _ (n m : ℕ) (room : 16384 ≤ n) (work-room : 16384 ≤ m) where
   -- what is made of the line's answer is what is made of the request
   answered :
-      {X : Type 0} (other : X) (of : After → X) (o : Option Wanted) (asked : Asked) (buffer : List ℕ) →
+      {X : Type 0} (other : X) (of : After → X) (o : Option Wanted) (asked : Perhaps Asked) (buffer : List ℕ) →
       Ranged o → Answers (zeros n) o asked buffer →
       made other of asked buffer (zeros m) ≡ requested other of o
-  answered other of none asked buffer r e = ap (λ (a : Asked). made other of a buffer (zeros m)) e
+  answered other of none asked buffer r e = ap (λ (a : Perhaps Asked). made other of a buffer (zeros m)) e
   answered other of (some (Wanted.request fuel area term)) asked buffer r (e, kept) =
       let front : take area buffer ≡ area_with area term = ap (take area) kept ∙ kept-area n area term r room in
       let cleared : take area (zeros m) ≡ zeros area = take-zeros area m (omega arith) in
-      ap (λ (a : Asked). made other of a buffer (zeros m)) e
+      ap (λ (a : Perhaps Asked). made other of a buffer (zeros m)) e
       ∙ ap₂ (λ (a w : List ℕ). of (finishing_of a (min (length term) length_cap) w (min fuel number_cap))) front cleared
       ∙ ap of
       (capped (area_with area term) (zeros area) (omega (arith, length-area area term)) (omega (arith, length-area area term, length-zeros area)) (length term) fuel)

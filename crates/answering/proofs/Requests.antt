@@ -3,18 +3,16 @@
 use Prim.Native.Nat.{ℕ, ◌≤◌, min}
 use native.Mathlib.Decide.{dec_le}
 use native.Mathlib.Omega.{arith}
-use mathlib.Core.Path.{◌≡◌, refl, sym, ◌∙◌, ap, ap₂}
-use mathlib.Core.Bool.{Bool}
+use mathlib.Core.Path.{◌≡◌, sym, ◌∙◌, ap, ap₂}
 use mathlib.Core.List.{List, ◌++◌}
+use Rattle.std.specs.Prelude.{Option}
 use lib.ListN.{length, take, drop, length-take, drop_of_length-le}
 use lib.Seq.{take_all, take_at}
-use Rattle.finish_line.specs.declared.Asked.{Asked}
-use Rattle.finish_line.specs.declared.Asked.TheVariants.{OtherShape, Request}
 use Rattle.slices.proofs.Appending.{Appends}
 use Rattle.reading.specs.Reply.{Reply}
-use Rattle.finishing.specs.Finishing.{Ran, After, counts_of, finishing_of}
+use Rattle.finishing.specs.Finishing.{Ran, After, finishing_of}
 use Rattle.answer_lines.specs.Shown.{reply_line, shown_run}
-use Rattle.answering.specs.Answer.{finished_in, printed_run, area_in, work_in, term_after, work_after, is_answered, ran_in, uses_in, ran_of, uses_of}
+use Rattle.answering.specs.Answer.{finished_in, area_in, work_in, used_with, used_in}
 use Rattle.answer_lines.proofs.Printing.{prints}
 
 -- a front is cut at the end of a list that is shorter
@@ -47,23 +45,23 @@ front_length area term n area' en kept =
     let long : length area' ≡ n = omega (arith, kept, en, length-take n term) in
     sym long ∙ sym (ap length (take_at area' (drop n term) n long))
 
--- what a call leaves: the printed line, the two buffers, whether there was a run, and how often it used each rule
+-- what a call leaves: the printed line, the two buffers, and how often a run used each rule
 abbrev pub Leaves :
-    (line term work : List ℕ) (ran : Bool) (uses : List ℕ) (out : List ℕ) (n : ℕ) (ran' : Bool) (uses' term' work' out' : List ℕ) → Type 0
-Leaves line term work ran uses out n ran' uses' term' work' out' =
-    Appends 0 line out n out' × (((term' ≡ term) × (work' ≡ work)) × ((ran' ≡ ran) × (uses' ≡ uses)))
+    (line term work : List ℕ) (used : Option (List ℕ)) (out : List ℕ) (n : ℕ) (used' : Option (List ℕ)) (term' work' out' : List ℕ) → Type 0
+Leaves line term work used out n used' term' work' out' =
+    Appends 0 line out n out' × (((term' ≡ term) × (work' ≡ work)) × (used' ≡ used))
 
 -- a request: finishing in the fronts of the buffers
 pub request_answers :
     (fuel area len : ℕ) (term work : List ℕ) (n m : ℕ) (reply : Reply Unit) (r : Ran) (area' work' out : List ℕ) (k : ℕ) (out' : List ℕ)
-    (ran : Bool) →
+    (used : Option (List ℕ)) →
     n ≡ min area (length term) → m ≡ min area (length work) → length area' ≡ length (take n term) →
     After.after reply r area' work' ≡ finishing_of (take n term) len (take m work) fuel →
-    Appends 0 (reply_line reply r (take n (area' ++ drop n term))) out k out' → ran ≡ is_answered reply →
+    Appends 0 (reply_line reply r (take n (area' ++ drop n term))) out k out' → used ≡ used_with reply r →
     Leaves (shown_run (finished_in fuel area len term work)) (area_in (finished_in fuel area len term work) ++ drop area term)
-    (work_in (finished_in fuel area len term work) ++ drop area work) (ran_in (finished_in fuel area len term work))
-    (uses_in (finished_in fuel area len term work)) out k ran (counts_of r) (area' ++ drop n term) (work' ++ drop m work) out'
-request_answers fuel area len term work n m reply r area' work' out k out' ran en em kept e printed made =
+    (work_in (finished_in fuel area len term work) ++ drop area work) (used_in (finished_in fuel area len term work)) out k used
+    (area' ++ drop n term) (work' ++ drop m work) out'
+request_answers fuel area len term work n m reply r area' work' out k out' used en em kept e printed made =
     let fronts : After.after reply r area' work' ≡ finished_in fuel area len term work =
     e
     ∙ ap₂ (λ (t w : List ℕ). finishing_of t len w fuel)
@@ -76,26 +74,6 @@ request_answers fuel area len term work n m reply r area' work' out k out' ran e
           ap₂ (λ (a b : List ℕ). a ++ b) (ap area_in fronts) (ap (λ (i : ℕ). drop i term) en ∙ drop_min area term),
           ap₂ (λ (a b : List ℕ). a ++ b) (ap work_in fronts) (ap (λ (i : ℕ). drop i work) em ∙ drop_min area work),
         ),
-        (made ∙ ap ran_in fronts, ap uses_in fronts),
+        made ∙ ap used_in fronts,
       ),
     )
-
--- what is no request has another shape
-pub no_request : (a : Asked) → ((fuel area len : ℕ) → a ≡ Request fuel area len → ⊥) → a ≡ OtherShape
-no_request OtherShape h = refl
-no_request (Request fuel area len) h = absurd (h fuel area len refl)
-
--- what is said of a request is said of what asks for it
-pub asked_answers :
-    (asked : Asked) (term work out : List ℕ) (k : ℕ) (ran : Bool) (uses term' work' out' : List ℕ) {other : Asked} → asked ≡ other →
-    Leaves (printed_run other term work) (term_after other term work) (work_after other term work) (ran_of other term work) (uses_of other term work)
-    out k ran uses term' work' out' →
-    Leaves (printed_run asked term work) (term_after asked term work) (work_after asked term work) (ran_of asked term work) (uses_of asked term work)
-    out k ran uses term' work' out'
-asked_answers asked term work out k ran uses term' work' out' e (printed, ((left, right), (made, used))) = (
-  prints out k out' (ap (λ (a : Asked). printed_run a term work) (sym e)) printed,
-  (
-    (left ∙ ap (λ (a : Asked). term_after a term work) (sym e), right ∙ ap (λ (a : Asked). work_after a term work) (sym e)),
-    (made ∙ ap (λ (a : Asked). ran_of a term work) (sym e), used ∙ ap (λ (a : Asked). uses_of a term work) (sym e)),
-  ),
-)

@@ -2,14 +2,12 @@
 use Prim.Native.Nat.{ℕ, zero, suc, ◌+◌, ◌*◌, ◌-◌, ◌/◌, ◌≤◌, ◌<◌, min}
 use native.Mathlib.Nat.{suc-mul, mul-le-mul_right, mul_left_comm}
 use native.Mathlib.Omega.{arith}
-use mathlib.Core.Path.{◌≡◌, refl, sym, ◌∙◌, ap, ap₂}
-use mathlib.Core.Logic.{◌⊎◌, ⊎_elim}
+use mathlib.Core.Path.{◌≡◌, refl, sym, ◌∙◌, ap}
 use mathlib.Core.List.Memᴰ
-use mathlib.Core.List.{List, [], ◌∷◌, ◌++◌, Memᴰ}
+use mathlib.Core.List.{List, [], ◌∷◌, Memᴰ}
 use lib.ListN.{length, get_or, set, take, drop, replicate, length-take, length-drop}
 use lib.Seq.{paste, take_all, take-nil, drop-nil, get_or-take, length-take-le, take_at}
 use Rattle.slices.specs.Part.{part}
-use Rattle.slices.proofs.Part.{drop-zeros}
 use Rattle.slices.proofs.Put.{paste-turn}
 use Rattle.bell_rows.specs.Row.{most, placed}
 use Rattle.bell_rows.specs.Bytes.{bell_number, bells_in}
@@ -54,22 +52,11 @@ module _ (s : List ℕ) where
   -- one more
   pub one_placed :
       (i v : ℕ) (row : List ℕ) → i < most → i < length s / 2 → v ≡ bell_number (get_or s (2 * i + 1) 0) → row ≡ paste empty 0 row_of i →
-      (i + 1 ≤ length row_of) × (set row i v ≡ paste empty 0 row_of (i + 1))
+      set row i v ≡ paste empty 0 row_of (i + 1)
   one_placed i v row h more e r =
       let sized = row-length in
       let value : v ≡ get_or row_of i 0 = e ∙ sym (bell-at s i (omega arith)) ∙ sym (get_or-take most (bells_in s) i 0 h) in
-      (omega arith, paste-turn empty 0 row_of i i v row (omega arith) (omega arith) (omega arith) value r)
-
-  -- all of them
-  pub all_placed :
-      (i : ℕ) (row : List ℕ) → i ≤ length row_of → (most ≤ i) ⊎ (length s / 2 ≤ i) → row ≡ paste empty 0 row_of i → row ≡ placed row_of
-  all_placed i row low high r =
-      let all : length row_of ≤ i =
-      ⊎_elim (λ (h : most ≤ i). omega (arith, row-length)) (λ (h : length s / 2 ≤ i). omega (arith, row-length)) high in
-      let left : most - (0 + i) ≡ most - length row_of = omega arith in
-      r
-      ∙ ap₂ (λ (front rest : List ℕ). front ++ rest) (take_all i row_of all) (drop-zeros (0 + i) most)
-      ∙ ap (λ (k : ℕ). row_of ++ replicate k 0) left
+      paste-turn empty 0 row_of i i v row (omega arith) (omega arith) (omega arith) value r
 
 -- ---- rows of a chain
 

@@ -1,6 +1,5 @@
 pub mod Numbers
 pub mod Chains
-pub mod Scanning
 pub mod Bells
 pub mod Keys
 pub mod Cutting

@@ -41,20 +41,17 @@ fn bell_number(b: u8) -> u8
 pub fn is_chain(term: &[u8]) -> bool
     ensures { result ≡ is_chain_text term.now }
 {
-    let mut at = 0;
-    while at < term.len() {
-        if term.len() - at == 1 {
-            return term[at] == letters::I;
-        }
-        if term[at] != letters::B {
+    let mut rest = term;
+    while let [pair, bell, behind @ ..] = rest {
+        if *pair != letters::B {
             return false;
         }
-        if !is_bell(term[at + 1]) {
+        if !is_bell(*bell) {
             return false;
         }
-        at += 2;
+        rest = behind;
     }
-    false
+    matches!(rest, [letters::I])
 }
 
 // The row that links of a chain make: their bells, the first twelve at most, and 0 in the places behind them.
@@ -63,13 +60,8 @@ pub fn row_of(links: &[u8]) -> [u8; MOST]
 {
     let bells = links.len() / 2;
     let mut row = [0; MOST];
-    let mut i = 0;
-    while i < MOST {
-        if bells <= i {
-            return row;
-        }
+    for i in 0..MOST.min(bells) {
         row[i] = bell_number(links[2 * i + 1]);
-        i += 1;
     }
     row
 }
@@ -82,9 +74,8 @@ pub fn is_row(row: [u8; MOST], bells: usize) -> bool
         return false;
     }
     let mut seen = [false; MOST + 1];
-    let mut i = 0;
-    while i < bells {
-        let bell = row[i] as usize;
+    for place in &row[..bells] {
+        let bell = usize::from(*place);
         if bell == 0 {
             return false;
         }
@@ -95,7 +86,6 @@ pub fn is_row(row: [u8; MOST], bells: usize) -> bool
             return false;
         }
         seen[bell] = true;
-        i += 1;
     }
     true
 }
@@ -105,10 +95,8 @@ pub fn key(row: [u8; MOST]) -> u64
     ensures { result ≡ key_of row }
 {
     let mut key = 0;
-    let mut place = 0;
-    while place < MOST {
-        key = key * BASE + row[place] as u64;
-        place += 1;
+    for bell in &row {
+        key = key * BASE + u64::from(*bell);
     }
     key
 }

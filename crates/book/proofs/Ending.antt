@@ -3,10 +3,9 @@ use Prim.Native.Nat.{ℕ, ◌-◌, ◌≤◌}
 use native.Mathlib.Omega.{arith}
 use mathlib.Core.Path.{◌≡◌, refl, sym, ◌∙◌, ap, ap₂}
 use mathlib.Core.List.{List, [], ◌∷◌, ◌++◌}
-use types.Run.{OneOf, miss}
-use denote.Enum.Declared.{tag_of}
 use lib.ListN.{length, take, drop, replicate}
 use lib.Seq.{length-take-le, drop_at}
+use Rattle.std.specs.Prelude.{Err}
 use Rattle.calculus.specs.Run as runs
 use Rattle.reading.specs.Reply.{Reply, passed_on}
 use Rattle.reading.specs.Area.{holding, cleared}
@@ -19,55 +18,28 @@ use Rattle.books.specs.Playing.{Played, After, emptied, playing_of}
 use Rattle.books.specs.PlaysAs.{Admitted}
 use Rattle.books.proofs.Answers.{emptied-again}
 use Rattle.books.proofs.Replies.{unread-playing, stopped-playing, finished-playing}
-use Rattle.book_reading.specs.Answer.{answer_of as readingAnswer}
-use Rattle.book_reading.specs.Table.{count_of, table_of}
-use Rattle.book_reading.specs.declared.BookReading.{BookReading}
-use Rattle.book_reading.specs.declared.BookReading.TheVariants.{TooLong, Empty, NoLineEnd, BadLine, Whole}
-use Rattle.book_reading.specs.contracts.BookReading.{the_type}
+use Rattle.book_reading.specs.Answer.{refusal_of as unread_of, answer_of as readingAnswer}
+use Rattle.book_reading.specs.Table.{count_of}
+use Rattle.book_reading.specs.declared.Refused.{Refused as Unread}
 use Rattle.book.specs.Lines.{BookReady, LinesReady, PlayLeft}
 
 -- no refusal is an answer
 refused-other : {X : Type 0} {n p : ℕ} {x : X} → Reply.refused n p ≡ Reply.answered x → ⊥
 refused-other e = let z : ◌≡◌ {A = ℕ} 0 1 = cc in omega arith
 
--- what is refused of a book is no number of lines
-unread-lines : (a : BookReading) (n : ℕ) → OneOf (0 ∷ 1 ∷ 2 ∷ 3 ∷ []) (tag_of the_type a) → readingAnswer a ≡ Reply.answered n → ⊥
-unread-lines TooLong n k e = refused-other e
-unread-lines Empty n k e = refused-other e
-unread-lines NoLineEnd n k e = refused-other e
-unread-lines (BadLine fault line) n k e = refused-other e
-unread-lines (Whole lines) n k e = miss (0 ∷ 1 ∷ 2 ∷ 3 ∷ []) 4 tt k
-
--- what is read as a number of lines is a book
-whole-lines : (a : BookReading) (x : Reply (List Line)) → tag_of the_type a ≡ 4 → readingAnswer a ≡ count_of x → (whole : List Line) × (x ≡ Reply.answered whole)
-whole-lines a (Reply.answered whole) k e = (whole, refl)
-whole-lines TooLong (Reply.refused n p) k e = absurd (omega arith)
-whole-lines Empty (Reply.refused n p) k e = absurd (omega arith)
-whole-lines NoLineEnd (Reply.refused n p) k e = absurd (omega arith)
-whole-lines (BadLine fault line) (Reply.refused n p) k e = absurd (omega arith)
-whole-lines (Whole lines) (Reply.refused n p) k e = absurd (refused-other (sym e))
-
 module _ (book area work store : List ℕ) (fuel : ℕ) (admitted : Admitted area work store fuel) where
   -- what is refused of the book
   pub ends-unread :
-      (a : BookReading) → readingAnswer a ≡ count_of (book_of book) → OneOf (0 ∷ 1 ∷ 2 ∷ 3 ∷ []) (tag_of the_type a) →
-      After.after (passed_on (readingAnswer a)) area work store ≡ playing_of book area work store fuel
-  ends-unread a e k = go (book_of book) refl e
+      (unread : Unread) → readingAnswer (Err unread) ≡ count_of (book_of book) →
+      After.after (passed_on (unread_of unread)) area work store ≡ playing_of book area work store fuel
+  ends-unread unread e = go (book_of book) refl e
     where
       go :
-          (x : Reply (List Line)) → book_of book ≡ x → readingAnswer a ≡ count_of x →
-          After.after (passed_on (readingAnswer a)) area work store ≡ playing_of book area work store fuel
+          (x : Reply (List Line)) → book_of book ≡ x → readingAnswer (Err unread) ≡ count_of x →
+          After.after (passed_on (unread_of unread)) area work store ≡ playing_of book area work store fuel
       go (Reply.refused n p) read e =
           ap (λ (r : Reply ℕ). After.after (passed_on r) area work store) e ∙ sym (unread-playing book area work store fuel admitted n p read)
-      go (Reply.answered whole) read e = absurd (unread-lines a (length whole) k e)
-
-  -- it was read
-  pub ends-ready :
-      (a : BookReading) (keys : List ℕ) → readingAnswer a ≡ count_of (book_of book) → keys ≡ table_of (book_of book) → tag_of the_type a ≡ 4 →
-      BookReady book keys area work store fuel
-  ends-ready a keys e table k =
-      let (whole, read) = whole-lines a (book_of book) k e in
-      record { admitted = admitted; lines = whole; read = read; keyed = table ∙ ap table_of read }
+      go (Reply.answered whole) read e = absurd (refused-other e)
 
 -- what stands behind the bytes that were lent is as it was
 pub emptied-alike :

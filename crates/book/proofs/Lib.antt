@@ -1,3 +1,2 @@
-pub mod Fields
 pub mod Walking
 pub mod Ending

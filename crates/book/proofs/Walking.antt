@@ -4,8 +4,6 @@ use Prim.Native.Nat.{ℕ, suc, ◌+◌, ◌-◌, ◌≤◌, ◌<◌}
 use native.Mathlib.Omega.{arith}
 use mathlib.Core.Path.{◌≡◌, refl, sym, ◌∙◌, ap, ap₂, subst}
 use mathlib.Core.List.{List, [], ◌∷◌, ◌++◌, append_assoc, append-nil}
-use types.Run.{OneOf, miss}
-use denote.Enum.Declared.{tag_of}
 use lib.ListN.{length, set, take, drop, replicate, length-append, length-set, length-replicate}
 use lib.Seq.{take_at, take-suc-set, drop_at}
 use native.Mathlib.Numerals.{add-one}
@@ -18,7 +16,6 @@ use Rattle.reading.specs.Reply.{Reply, onward}
 use Rattle.finishing.specs.Answer.{outcome_of}
 use Rattle.finishing.specs.declared.Outcome.{Outcome}
 use Rattle.finishing.specs.declared.Outcome.TheVariants.{Finished, Spent, NoRoom}
-use Rattle.finishing.specs.contracts.Outcome.{the_type}
 use Rattle.books.specs.Piece.{piece_text}
 use Rattle.books.specs.Line.{Line, name_in, piece_in, line_text, WellFormed}
 use Rattle.books.specs.Book.{line_limit, Book, ReadsBook, next_line, book_from, book_of}
@@ -31,6 +28,9 @@ use Rattle.book_lines.specs.Fault.{piece_field}
 use Rattle.book_reading.specs.Table.{table_of}
 use Rattle.book_reading.proofs.Lines.{line-ends, one_line, no_line}
 use Rattle.line_playing.specs.Shelf.{Shelved, Lent, Playable, Gives, LineLeft}
+use Rattle.line_playing.specs.declared.LineEnd.{LineEnd}
+use Rattle.line_playing.specs.declared.LineEnd.TheVariants as LineEnds
+use Rattle.book.specs.declared.Played.{Played}
 use Rattle.book.specs.Lines.{LinesReady, PlayLeft}
 use Rattle.book_names.proofs.Given.{length_keys}
 use Rattle.line_playing.proofs.Shelves.{as_many, shelf_more}
@@ -211,33 +211,43 @@ module _
 
     -- it stops, and so does the book
     walk-stops :
-        (o : Outcome) (p : runs.Outcome) (line' : ℕ) (area' : List ℕ) → outcome_of o ≡ p → line' ≡ count + 1 →
+        (end : Played) (o : Outcome) (p : runs.Outcome) (area' : List ℕ) → outcome_of o ≡ p →
+        (end.outcome ≡ o) × (end.line ≡ count + 1) × (end.size ≡ 0) →
         came ≡ Play.stopped p (suc (length walked.results)) → (whole : List Line) → book_of book ≡ Reply.answered whole →
-        PlayLeft (play fuel (length area₀) whole) o line' 0 area'
-    walk-stops o p line' area' same counted stopped whole read =
+        PlayLeft (play fuel (length area₀) whole) end.outcome end.line end.size area'
+    walk-stops end o p area' same is stopped whole read =
         let one : walked.whole ≡ whole = cc (sym walked.read ∙ read) in
         let ends_so : play fuel (length area₀) whole ≡ Play.stopped p (suc (length walked.results)) =
         ap (play fuel (length area₀)) (sym one)
         ∙ stops-later fuel (length area₀) p (suc (length walked.results)) (next.l ∷ walked.earlier) (lines (drop (feed + 1) book))
         walked.whole next.others (came-play ∙ stopped) in
-        subst (λ (q : Play). PlayLeft q o line' 0 area') (sym ends_so)
-        (same, omega (arith, counted, walked.counted, as_many walked.earlier walked.results walked.shelved.named), refl)
+        subst (λ (q : Play). PlayLeft q end.outcome end.line end.size area') (sym ends_so)
+        (ap outcome_of is.0 ∙ same, omega (arith, is.1, walked.counted, as_many walked.earlier walked.results walked.shelved.named), is.2)
 
-    pub walk-left :
-        (o : Outcome) (line' sized' : ℕ) (area' store' : List ℕ) → OneOf (1 ∷ 2 ∷ []) (tag_of the_type o) →
-        LineLeft o came next.l walked.results used sized' area' store' → line' ≡ count + 1 → (whole : List Line) →
-        book_of book ≡ Reply.answered whole → PlayLeft (play fuel (length area₀) whole) o line' 0 area'
-    walk-left Finished line' sized' area' store' k left counted whole read = absurd (miss (1 ∷ 2 ∷ []) 0 tt k)
-    walk-left Spent line' sized' area' store' k left counted whole read =
-        walk-stops Spent runs.Outcome.spent line' area' refl counted left whole read
-    walk-left NoRoom line' sized' area' store' k left counted whole read =
-        walk-stops NoRoom runs.Outcome.no_room line' area' refl counted left whole read
+    pub walk-spent :
+        (e : LineEnd) (end : Played) (area' store' : List ℕ) → e ≡ LineEnds.Spent →
+        LineLeft e came next.l walked.results used area' store' → (end.outcome ≡ Spent) × (end.line ≡ count + 1) × (end.size ≡ 0) →
+        (whole : List Line) → book_of book ≡ Reply.answered whole →
+        PlayLeft (play fuel (length area₀) whole) end.outcome end.line end.size area'
+    walk-spent e end area' store' same left is =
+        walk-stops end Spent runs.Outcome.spent area' refl is
+        (subst (λ (x : LineEnd). LineLeft x came next.l walked.results used area' store') same left)
+
+    pub walk-no_room :
+        (e : LineEnd) (end : Played) (area' store' : List ℕ) → e ≡ LineEnds.NoRoom →
+        LineLeft e came next.l walked.results used area' store' → (end.outcome ≡ NoRoom) × (end.line ≡ count + 1) × (end.size ≡ 0) →
+        (whole : List Line) → book_of book ≡ Reply.answered whole →
+        PlayLeft (play fuel (length area₀) whole) end.outcome end.line end.size area'
+    walk-no_room e end area' store' same left is =
+        walk-stops end NoRoom runs.Outcome.no_room area' refl is
+        (subst (λ (x : LineEnd). LineLeft x came next.l walked.results used area' store') same left)
 
     -- it finishes
     pub walk-gave :
-        (o : Outcome) (more : ℕ) (area' store' : List ℕ) → o ≡ Finished → LineLeft o came next.l walked.results used more area' store' →
+        (e : LineEnd) (more : ℕ) (area' store' : List ℕ) → e ≡ LineEnds.Finished more →
+        LineLeft e came next.l walked.results used area' store' →
         Gives came next.l walked.results used more area' store'
-    walk-gave o more area' store' same left = subst (λ (x : Outcome). LineLeft x came next.l walked.results used more area' store') same left
+    walk-gave e more area' store' same left = subst (λ (x : LineEnd). LineLeft x came next.l walked.results used area' store') same left
 
     -- and the walk goes on behind it
     pub walk-on :

@@ -3,12 +3,10 @@
 #![tactic(auto)]
 
 ghost use Rattle.std.specs.Prelude.{◌≡◌, ◌-◌, ◌≤◌, length, take, replicate, List, ◌++◌};
-ghost use Rattle.reading.specs.Reply.{number_in, place_in};
-ghost use Rattle.finishing.specs.Answer.{outcome_of};
 ghost use Rattle.reading.specs.Area.{cleared};
-ghost use Rattle.books.specs.Playing.{Played, After, emptied, playing_of};
+ghost use Rattle.books.specs.Playing.{After, emptied, playing_of};
 ghost use Rattle.book_lines.specs.Fault.{piece_field};
-ghost use Rattle.book.specs.Answer.{answer_of};
+ghost use Rattle.book.specs.Answer.{refusal_of, played_of, answer_of};
 ghost use Rattle.books.specs.Line.{Line};
 ghost use Rattle.books.specs.Book.{book_of};
 ghost use Rattle.books.specs.Play.{store_size, play as played};
@@ -16,12 +14,14 @@ ghost use Rattle.reading.specs.Reply.{Reply};
 ghost use Rattle.book.specs.Lines.{BookReady, LinesReady, PlayLeft};
 
 use book_names::find_from;
-use book_reading::BookReading;
 use finishing::Outcome;
+use line_playing::LineEnd;
+use reading::Refusal;
+use replacing::Shelf;
 
-// What playing answers; specs/Answer.antt gives the number and the values of each case.
+// What playing refuses of a call; specs/Answer.antt gives the number and the line of each case.
 #[derive(Clone, Copy)]
-pub enum Playing {
+pub enum Refused {
     // The term area is over 16,384 bytes.
     AreaTooLong,
     // The work area is shorter than the term area.
@@ -31,45 +31,38 @@ pub enum Playing {
     // The fuel is over 1,000,000.
     FuelTooHigh,
     // What was refused of the book, unaltered.
-    Unread(BookReading),
-    // The outcome, the line, and the size of the result, 0 where there is none.
-    Played(Outcome, usize, usize),
+    Unread(book_reading::Refused),
 }
 
-// The number of a refusal, 0 of an answer.
-pub fn number(answer: Playing) -> u64
-    ensures { result ≡ number_in (answer_of answer) }
-{
-    match answer {
-        Playing::AreaTooLong => 1,
-        Playing::WorkTooShort => 2,
-        Playing::StoreTooShort => 2,
-        Playing::FuelTooHigh => 4,
-        Playing::Unread(reading) => book_reading::number(reading),
-        Playing::Played(_, _, _) => 0,
+impl Refusal for Refused {
+    ghost refusal = { refusal_of };
+
+    fn number(&self) -> u64 {
+        match *self {
+            Refused::AreaTooLong => 1,
+            Refused::WorkTooShort | Refused::StoreTooShort => 2,
+            Refused::FuelTooHigh => 4,
+            Refused::Unread(unread) => unread.number(),
+        }
     }
-}
 
-// The line of a refusal, 0 of an answer and of what is refused without a line.
-pub fn place(answer: Playing) -> usize
-    ensures { result ≡ place_in (answer_of answer) }
-{
-    match answer {
-        Playing::AreaTooLong => 0,
-        Playing::WorkTooShort => 0,
-        Playing::StoreTooShort => 0,
-        Playing::FuelTooHigh => 0,
-        Playing::Unread(reading) => book_reading::place(reading),
-        Playing::Played(_, _, _) => 0,
+    fn place(&self) -> usize {
+        match *self {
+            Refused::AreaTooLong
+            | Refused::WorkTooShort
+            | Refused::StoreTooShort
+            | Refused::FuelTooHigh => 0,
+            Refused::Unread(unread) => unread.place(),
+        }
     }
 }
 
 // What all lines came to: the outcome and the number of the last one played, and the size of its result, 0 where there is none.
 #[derive(Clone, Copy)]
-struct LinesEnd {
-    outcome: Outcome,
-    line: usize,
-    size: usize,
+pub struct Played {
+    pub outcome: Outcome,
+    pub line: usize,
+    pub size: usize,
 }
 
 // What stands behind the first tab of a line.
@@ -83,7 +76,19 @@ fn piece_of(body: &[u8]) -> &[u8]
     slices::cut(body, tab + 1, body.len())
 }
 
+// What the lines came to where one did not finish.
+fn stopped(outcome: Outcome, line: usize) -> Played
+    ensures { (result.outcome ≡ outcome) × (result.line ≡ line) × (result.size ≡ 0) }
+{
+    Played {
+        outcome,
+        line,
+        size: 0,
+    }
+}
+
 // Plays the lines of a book, up to the first that does not finish.
+// Kept: what is lent goes down part by part, since in one struct each contract would say besides that its three borrows stay the same ones.
 fn play_lines(
     book: &[u8],
     keys: &[u64],
@@ -91,7 +96,7 @@ fn play_lines(
     work: &mut [u8],
     store: &mut [u8],
     fuel: u64,
-) -> LinesEnd
+) -> Played
     requires { LinesReady book.now keys.now area.old work.old store.old fuel }
     ensures { (lines : List Line) → book_of book.now ≡ Reply.answered lines
         → PlayLeft (played fuel (length area.old) lines) result.outcome result.line result.size area.new }
@@ -101,12 +106,15 @@ fn play_lines(
     let mut used: usize = 0;
     let mut size: usize = 0;
     let mut at = 0;
+    // Kept: a `while`, since each turn goes on behind the line that it played.
     while at < book.len() {
         let feed = find_from(book, slices::LINE_FEED, at);
-        let line = line_playing::play_line(
+        let end = line_playing::play_line(
             piece_of(slices::cut(book, at, feed)),
-            &keys[..count],
-            &ends[..count + 1],
+            Shelf {
+                keys: &keys[..count],
+                ends: &ends[..count + 1],
+            },
             area,
             work,
             store,
@@ -114,20 +122,16 @@ fn play_lines(
             fuel,
         );
         count += 1;
-        let outcome = line.outcome;
-        let Outcome::Finished = outcome else {
-            return LinesEnd {
-                outcome,
-                line: count,
-                size: 0,
-            };
+        size = match end {
+            LineEnd::Finished(size) => size,
+            LineEnd::Spent => return stopped(Outcome::Spent, count),
+            LineEnd::NoRoom => return stopped(Outcome::NoRoom, count),
         };
-        size = line.size;
         used += size;
         ends[count] = used;
         at = feed + 1;
     }
-    LinesEnd {
+    Played {
         outcome: Outcome::Finished,
         line: count,
         size,
@@ -152,7 +156,7 @@ fn play_lent(
     work: &mut [u8],
     store: &mut [u8],
     fuel: u64,
-) -> LinesEnd
+) -> Played
     requires { BookReady book.now keys.now area.old work.old store.old fuel }
     ensures play_left { (lines : List Line) → book_of book.now ≡ Reply.answered lines
         → PlayLeft (played fuel (length area.old) lines) result.outcome result.line result.size area.new }
@@ -177,10 +181,10 @@ fn play_read(
     work: &mut [u8],
     store: &mut [u8],
     fuel: u64,
-) -> LinesEnd
+) -> Played
     requires { BookReady book.now keys.now area.old work.old store.old fuel }
-    ensures { After.after (Reply.answered (Played.played (outcome_of result.outcome) result.line result.size)) area.new work.new
-        store.new ≡ playing_of book.now area.old work.old store.old fuel }
+    ensures { After.after (Reply.answered (played_of result)) area.new work.new store.new
+        ≡ playing_of book.now area.old work.old store.old fuel }
 {
     let end = play_lent(book, keys, area, work, store, fuel);
     clear(area, end.size, work, store);
@@ -188,29 +192,31 @@ fn play_read(
 }
 
 // Plays a book with the lent area, work area and store; the work area is at least as long as the area.
-pub fn play(book: &[u8], area: &mut [u8], work: &mut [u8], store: &mut [u8], fuel: u64) -> Playing
+pub fn play(
+    book: &[u8],
+    area: &mut [u8],
+    work: &mut [u8],
+    store: &mut [u8],
+    fuel: u64,
+) -> Result<Played, Refused>
     ensures { After.after (answer_of result) area.new work.new store.new
         ≡ playing_of book.now area.old work.old store.old fuel }
 {
     if calculus::AREA_LIMIT < area.len() {
-        return Playing::AreaTooLong;
+        return Err(Refused::AreaTooLong);
     }
     if work.len() < area.len() {
-        return Playing::WorkTooShort;
+        return Err(Refused::WorkTooShort);
     }
     if store.len() < books::STORE_SIZE {
-        return Playing::StoreTooShort;
+        return Err(Refused::StoreTooShort);
     }
     if calculus::FUEL_LIMIT < fuel {
-        return Playing::FuelTooHigh;
+        return Err(Refused::FuelTooHigh);
     }
-    let read = book_reading::read_book(book);
-    let reading = read.answer;
-    let BookReading::Whole(_) = reading else {
-        return Playing::Unread(reading);
+    let reading = book_reading::read_book(book);
+    let Ok(names) = reading else {
+        return Err(Refused::Unread(reading.unwrap_err()));
     };
-    let keys = read.keys;
-    let end = play_read(book, &keys, area, work, store, fuel);
-    let outcome = end.outcome;
-    Playing::Played(outcome, end.line, end.size)
+    Ok(play_read(book, &names.keys, area, work, store, fuel))
 }

@@ -8,7 +8,7 @@ ghost use Rattle.book.specs.Answer.{answer_of};
 ghost use Rattle.book_answers.specs.Shown.{played_line, reply_line};
 ghost use Rattle.book_answers.specs.Program.{shown_in, book_program};
 
-use book::Playing;
+use book::{Played, Refused};
 use finishing::Outcome;
 
 // The program's line for a book, put at the start of `out`; the answer is its length. Where it does not fit, `out` stays and the answer
@@ -19,11 +19,11 @@ pub fn answer_book(book: &[u8], out: &mut [u8]) -> usize
 {
     let mut area = [0u8; calculus::AREA_LIMIT];
     let answer = play_in(book, &mut area);
-    print_playing(answer, &area, out)
+    print_playing(&answer, &area, out)
 }
 
 // Plays a book in a lent area with the most fuel; work area and store are its own.
-fn play_in(book: &[u8], area: &mut [u8]) -> Playing
+fn play_in(book: &[u8], area: &mut [u8]) -> Result<Played, Refused>
     ensures { reply_line (answer_of result) area.new ≡ shown_in book.now area.old }
 {
     let mut work = [0u8; calculus::AREA_LIMIT];
@@ -32,19 +32,17 @@ fn play_in(book: &[u8], area: &mut [u8]) -> Playing
 }
 
 // The line of playing's answer; the result stands at the front of the area.
-fn print_playing(answer: Playing, area: &[u8], out: &mut [u8]) -> usize
-    ensures { (out.new ≡ put 0 (reply_line (answer_of answer) area.now) out.old)
-        × (result ≡ behind 0 (reply_line (answer_of answer) area.now) out.old) }
+fn print_playing(answer: &Result<Played, Refused>, area: &[u8], out: &mut [u8]) -> usize
+    ensures { (out.new ≡ put 0 (reply_line (answer_of answer.now) area.now) out.old)
+        × (result ≡ behind 0 (reply_line (answer_of answer.now) area.now) out.old) }
 {
-    let Playing::Played(outcome, line, size) = answer else {
-        return printing::print_numbers(
-            b"refused",
-            book::number(answer),
-            book::place(answer) as u64,
-            out,
-        );
-    };
-    print_played(outcome, line, slices::cut(area, 0, size), out)
+    match answer {
+        Ok(played) => {
+            let res = slices::cut(area, 0, played.size);
+            print_played(played.outcome, played.line, res, out)
+        }
+        Err(refused) => answer_lines::print_refusal(refused, out),
+    }
 }
 
 // The line of a book whose lines were played.
@@ -52,9 +50,9 @@ fn print_played(outcome: Outcome, line: usize, res: &[u8], out: &mut [u8]) -> us
     ensures { (out.new ≡ put 0 (played_line (outcome_of outcome) line res.now) out.old)
         × (result ≡ behind 0 (played_line (outcome_of outcome) line res.now) out.old) }
 {
+    let word = answer_lines::word(outcome);
     match outcome {
-        Outcome::Finished => printing::print_line(b"finished", line as u64, res, out),
-        Outcome::Spent => printing::print_count(b"spent", line as u64, out),
-        Outcome::NoRoom => printing::print_count(b"no room", line as u64, out),
+        Outcome::Finished => printing::print_line(word, line as u64, res, out),
+        Outcome::Spent | Outcome::NoRoom => printing::print_count(word, line as u64, out),
     }
 }

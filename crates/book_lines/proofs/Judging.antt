@@ -1,10 +1,10 @@
--- What is wrong with a line, as laws over plain variables: these carry the tests of `is_line` and of `check_line`. The two parts of the
+-- What is wrong with a line, as laws over plain variables: these carry the tests of `check_line`. The two parts of the
 -- line are the fields in front of its first tab and behind it. Assumes nothing.
-use Prim.Native.Nat.{ℕ, suc, ◌+◌, ◌≤◌, ◌<◌}
+use Prim.Native.Nat.{ℕ, suc, ◌+◌, ◌≤◌}
 use native.Mathlib.Numerals.{add-one}
 use native.Mathlib.Omega.{arith}
 use mathlib.Core.Path.{◌≡◌, refl, sym, ◌∙◌, ap, ap₂}
-use mathlib.Core.Bool.{Bool, true, false, cond, not, ◌&&◌, and-false}
+use mathlib.Core.Bool.{Bool, true, false, cond, not, ◌&&◌}
 use mathlib.Core.List.{List}
 use borrow.Author.Tests.{leb-true, leb-false, lt-ltb, le-ltb}
 use lib.Dec.{leb, ltb}
@@ -19,24 +19,6 @@ use Rattle.book_names.specs.Key.{key_of, is_in}
 use Rattle.book_lines.specs.Scan.{is_piece}
 use Rattle.book_lines.specs.Uses.{uses_in, all_in}
 use Rattle.book_lines.specs.Fault.{name_field, piece_field, fault_of}
-
--- ---- whether it is a line
-
--- it is none behind 256 others
-pub no_room : (count : ℕ) (named whole : Bool) → line_limit ≤ count → false ≡ ltb count line_limit && (named && whole)
-no_room count named whole h = sym (ap (λ (t : Bool). t && (named && whole)) (le-ltb count line_limit h))
-
--- nor without a name
-pub no_name_field : (count : ℕ) {named : Bool} (whole : Bool) → named ≡ false → false ≡ ltb count line_limit && (named && whole)
-no_name_field count whole e = sym (ap (λ (t : Bool). ltb count line_limit && (t && whole)) e ∙ and-false (ltb count line_limit))
-
--- with both, the piece decides
-pub by_piece :
-    (count : ℕ) {named whole result : Bool} → count < line_limit → named ≡ true → result ≡ whole →
-    result ≡ ltb count line_limit && (named && whole)
-by_piece count {whole = whole} h e r = r ∙ sym (ap₂ (λ (s t : Bool). s && (t && whole)) (lt-ltb count line_limit h) e)
-
--- ---- the number
 
 -- the number of the line of that name and piece, where it is one
 abbrev by_names : (name piece keys : List ℕ) → ℕ

@@ -8,9 +8,10 @@ use mathlib.Core.Path.{◌≡◌, refl, sym, ◌∙◌, ap, ap₂}
 use mathlib.Core.Bool.{Bool, true, false, cond, ◌&&◌, and-true, and-false, and_assoc, false≢true}
 use mathlib.Core.List.{List, [], ◌∷◌, ◌++◌, append_assoc, append-nil}
 use mathlib.Core.Option.{Option, none, some}
+use Rattle.std.specs.Prelude.{Some, None}
 use borrow.Author.Tests.{le-leb, lt-leb, lt-ltb, le-ltb, ltb-true, ltb-false, eq-eqb, ne_eqb}
 use lib.Dec.{eqb, leb, ltb, leb-suc-suc}
-use lib.ListN.{length, get_or, take, drop, drop_of_length-le, length-append, length-drop}
+use lib.ListN.{length, get_or, take, drop, length-append, length-drop}
 use lib.Seq.{drop-cons, drop-drop}
 use Rattle.calculus.specs.Letter.{Letter, letter_of, owed}
 use Rattle.calculus.proofs.Bells.{and_both}
@@ -134,16 +135,9 @@ made-headed Letter.B k o e = made-two Piece.B k o e
 made-headed Letter.stop k o e = made-two Piece.app k o e
 made-headed (Letter.bell b) k o e = made-before (Piece.bell b) o
 
--- no letter takes three pieces
-never_three : (l : Letter) → owed l 0 ≡ 3 → ⊥
-never_three Letter.J e = omega arith
-never_three Letter.R e = omega arith
-never_three Letter.H e = omega arith
-never_three Letter.A e = omega arith
-never_three Letter.I e = omega arith
-never_three Letter.B e = omega arith
-never_three Letter.stop e = omega arith
-never_three (Letter.bell b) e = omega arith
+-- a count is not missing
+Some≢None : {n : ℕ} → Some n ≡ None → ⊥
+Some≢None e = let z : ◌≡◌ {A = ℕ} 0 1 = cc in omega arith
 
 -- one piece is single
 single-made : (o : Option (List Piece)) → Counts 1 o → made o ≡ is_some (single o)
@@ -255,14 +249,6 @@ piece-start s = single-made (pieces_from 1 none s) (counted 1 none s)
 pub nothing-owed : (owing at : ℕ) (s : List ℕ) → at < length s → owing ≡ 0 → false ≡ made (pieces_from owing none (drop at s))
 nothing-owed owing at s h e = rw (e, drop-cons s at 0)
 
--- at the end nothing may be owed
-pub piece-end : (owing at : ℕ) (s : List ℕ) → length s ≤ at → eqb owing 0 ≡ made (pieces_from owing none (drop at s))
-piece-end owing at s h = go owing ∙ ap (λ (l : List ℕ). made (pieces_from owing none l)) (sym (drop_of_length-le s h))
-  where
-    go : (n : ℕ) → eqb n 0 ≡ made (pieces_from n none [])
-    go zero = refl
-    go (suc k) = ne_eqb (suc k) 0 (omega arith)
-
 -- what the byte at an index decides, where it opens a use or not
 abbrev decided : (k at : ℕ) (s : List ℕ) → Bool → Bool
 decided k at s t =
@@ -278,37 +264,39 @@ module _ (owing at : ℕ) (s : List ℕ) (h : at < length s) (owes : owing ≡ 0
       ap₂ (λ (n : ℕ) (l : List ℕ). made (pieces_from n none l)) some-owed
       (drop-cons s at 0 h ∙ ap (λ (n : ℕ). get_or s at 0 ∷ drop n s) (sym (add-one at)))
 
-  module _ (parts : ℕ) (other : get_or s at 0 ≡ open_mark → ⊥) (counts : parts ≡ arity_of (get_or s at 0)) where
+  module _ (other : get_or s at 0 ≡ open_mark → ⊥) where
     -- outside a use the letter decides
     at-outside : made (pieces_from owing none (drop at s)) ≡ decided (owing - 1) at s false
     at-outside = at_byte ∙ ap (decided (owing - 1) at s) (ne_eqb (get_or s at 0) open_mark other)
 
     -- a byte that is no letter and opens no use makes no piece
-    pub no_letter : parts ≡ 3 → false ≡ made (pieces_from owing none (drop at s))
+    pub no_letter : None ≡ arity_of (get_or s at 0) → false ≡ made (pieces_from owing none (drop at s))
     unfolding arity_of
-    no_letter e = sym (at-outside ∙ go (letter_of (get_or s at 0)) (sym counts ∙ e))
+    no_letter e = sym (at-outside ∙ go (letter_of (get_or s at 0)) e)
       where
         go :
-            (o : Option Letter) → arity_of_letter o ≡ 3 →
+            (o : Option Letter) → None ≡ arity_of_letter o →
             made (at_letter o (λ l. pieces_from (owed l (owing - 1)) none (drop (at + 1) s))) ≡ false
         go none e = refl
-        go (some l) e = absurd (never_three l e)
+        go (some l) e = absurd (Some≢None (sym e))
 
     -- behind a letter as many pieces more are owed as it takes
     pub one-letter :
-        (parts ≡ 3 → ⊥) → made (pieces_from (owing - 1 + parts) none (drop (at + 1) s)) ≡ made (pieces_from owing none (drop at s))
+        (parts : ℕ) → Some parts ≡ arity_of (get_or s at 0) →
+        made (pieces_from (owing - 1 + parts) none (drop (at + 1) s)) ≡ made (pieces_from owing none (drop at s))
     unfolding arity_of
-    one-letter e = sym (at-outside ∙ go (letter_of (get_or s at 0)) refl)
+    one-letter parts e = sym (at-outside ∙ go (letter_of (get_or s at 0)) e)
       where
         rest : List ℕ
         rest = drop (at + 1) s
 
         go :
-            (o : Option Letter) → letter_of (get_or s at 0) ≡ o →
+            (o : Option Letter) → Some parts ≡ arity_of_letter o →
             made (at_letter o (λ l. pieces_from (owed l (owing - 1)) none rest)) ≡ made (pieces_from (owing - 1 + parts) none rest)
-        go none q = absurd (e (counts ∙ ap arity_of_letter q))
+        go none q = absurd (Some≢None q)
         go (some l) q =
-            let sum : owed l (owing - 1) ≡ owing - 1 + parts = omega (arith, owed_sum l (owing - 1), counts ∙ ap arity_of_letter q) in
+            let takes : parts ≡ owed l 0 = cc in
+            let sum : owed l (owing - 1) ≡ owing - 1 + parts = omega (arith, owed_sum l (owing - 1), takes) in
             made-headed l (owing - 1) (pieces_from (owed l (owing - 1)) none rest) (counted (owed l (owing - 1)) none rest)
             ∙ ap (λ (n : ℕ). made (pieces_from n none rest)) sum
 

@@ -1,7 +1,7 @@
 -- The names that bytes use, one after the other, as laws over plain variables: these carry the loop of `uses_given`.
 -- Carried by two inductions over the bytes: outside a use up to the next mark that opens one, inside up to the next that closes it.
 -- Assumes nothing.
-use Prim.Native.Nat.{ℕ, suc, ◌+◌, ◌-◌, ◌≤◌, ◌<◌}
+use Prim.Native.Nat.{ℕ, suc, ◌+◌, ◌-◌, ◌<◌}
 use native.Mathlib.Numerals.{add-one}
 use native.Mathlib.Omega.{arith}
 use mathlib.Core.Path.{◌≡◌, refl, sym, ◌∙◌, ap, ap₂}
@@ -10,7 +10,7 @@ use mathlib.Core.List.{List, [], ◌∷◌, ◌++◌, append_assoc, append-nil}
 use mathlib.Core.Option.{none, some}
 use borrow.Author.Tests.{eqb-true, eq-eqb}
 use lib.Dec.{eqb}
-use lib.ListN.{length, get_or, take, drop, drop_of_length-le, length-drop}
+use lib.ListN.{length, get_or, take, drop, length-drop}
 use lib.Seq.{drop-cons, drop-drop, get_or-drop}
 use Rattle.slices.specs.Find.{index_from, index_of}
 use Rattle.slices.specs.Part.{part}
@@ -83,10 +83,6 @@ pub uses-start :
     (at : ℕ) (s keys : List ℕ) → at ≡ 0 + index_of open_mark (drop 0 s) → all_in (uses_from none (drop at s)) keys ≡ all_in (uses_in s) keys
 unfolding uses_in
 uses-start at s keys e = ap (λ (names : List (List ℕ)). all_in names keys) (next_mark 0 at s e)
-
--- behind the last mark there is none
-pub uses-end : (at : ℕ) (s keys : List ℕ) → length s ≤ at → true ≡ all_in (uses_from none (drop at s)) keys
-uses-end at s keys h = sym (ap (λ (l : List ℕ). all_in (uses_from none l) keys) (drop_of_length-le s h))
 
 module _
     (at end : ℕ)

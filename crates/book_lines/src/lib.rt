@@ -7,15 +7,14 @@ ghost use Rattle.books.specs.Book.{line_limit};
 ghost use Rattle.book_lines.specs.Scan.{is_piece};
 ghost use Rattle.book_lines.specs.Uses.{uses_in, all_in};
 ghost use Rattle.book_lines.specs.Fault.{fault_of};
-ghost use Rattle.book_lines.specs.Number.{number_of};
+ghost use Rattle.book_lines.specs.Number.{refusal_of, number_of};
 
 use book_names::{find_from, is_in, key};
+use reading::Refusal;
 
-// What is wrong with a line, if anything; specs/Number.antt gives the number of each case.
+// What a line is refused for; specs/Number.antt gives the number of each case.
 #[derive(Clone, Copy)]
 pub enum Fault {
-    // Nothing is wrong.
-    Sound,
     // It is no name, tab and piece, or one line too many.
     Malformed,
     // An earlier line has its name.
@@ -24,22 +23,26 @@ pub enum Fault {
     NameUnknown,
 }
 
-// The number of a bad line, 0 of a sound one.
-pub fn number(fault: Fault) -> u64
-    ensures { result ≡ number_of fault }
-{
-    match fault {
-        Fault::Sound => 0,
-        Fault::Malformed => 25,
-        Fault::NameGiven => 26,
-        Fault::NameUnknown => 27,
+impl Refusal for Fault {
+    ghost refusal = { refusal_of };
+
+    fn number(&self) -> u64 {
+        match *self {
+            Fault::Malformed => 25,
+            Fault::NameGiven => 26,
+            Fault::NameUnknown => 27,
+        }
+    }
+
+    fn place(&self) -> usize {
+        0
     }
 }
 
 fn is_small(b: u8) -> bool
     ensures { result ≡ is_small b }
 {
-    books::FIRST_SMALL <= b && b <= books::LAST_SMALL
+    (books::FIRST_SMALL..=books::LAST_SMALL).contains(&b)
 }
 
 // Whether bytes are a name.
@@ -53,14 +56,7 @@ pub fn is_name(s: &[u8]) -> bool
     if books::NAME_LIMIT < s.len() {
         return false;
     }
-    let mut at = 0;
-    while at < s.len() {
-        if !is_small(s[at]) {
-            return false;
-        }
-        at += 1;
-    }
-    true
+    s.iter().all(|b| is_small(*b))
 }
 
 // Whether bytes are the text of a piece.
@@ -69,6 +65,7 @@ pub fn is_piece(s: &[u8]) -> bool
 {
     let mut owed: usize = 1;
     let mut at = 0;
+    // Kept: a `while`, since a use is passed in one turn, and a letter in one.
     while at < s.len() {
         if owed == 0 {
             return false;
@@ -84,10 +81,9 @@ pub fn is_piece(s: &[u8]) -> bool
             owed -= 1;
             at = end + 1;
         } else {
-            let parts = reading::arity(s[at]);
-            if parts == reading::NO_LETTER {
+            let Some(parts) = reading::arity(s[at]) else {
                 return false;
-            }
+            };
             owed = owed - 1 + parts;
             at += 1;
         }
@@ -100,6 +96,7 @@ pub fn uses_given(piece: &[u8], keys: &[u64]) -> bool
     ensures { result ≡ all_in (uses_in piece.now) keys.now }
 {
     let mut at = find_from(piece, books::OPEN, 0);
+    // Kept: a `while`, since each turn goes on behind a use.
     while at < piece.len() {
         let end = find_from(piece, books::CLOSE, at + 1);
         if !is_in(keys, key(slices::cut(piece, at + 1, end))) {
@@ -114,17 +111,12 @@ pub fn uses_given(piece: &[u8], keys: &[u64]) -> bool
 fn is_line(count: usize, name: &[u8], piece: &[u8]) -> bool
     ensures { result ≡ ltb count line_limit && (is_name name.now && is_piece piece.now) }
 {
-    if books::LINE_LIMIT <= count {
-        return false;
-    }
-    if !is_name(name) {
-        return false;
-    }
-    is_piece(piece)
+    count < books::LINE_LIMIT && is_name(name) && is_piece(piece)
 }
 
-// What is wrong with the line of these bytes, behind lines whose names have these numbers; without a tab its piece is empty, and none.
-pub fn check_line(body: &[u8], keys: &[u64]) -> Fault
+// Refuses the line of these bytes for what is wrong with it, behind lines whose names have these numbers; without a tab its piece is empty,
+// and none.
+pub fn check_line(body: &[u8], keys: &[u64]) -> Result<(), Fault>
     ensures { number_of result ≡ fault_of body.now keys.now }
 {
     let tab = slices::find(body, slices::TAB);
@@ -134,13 +126,13 @@ pub fn check_line(body: &[u8], keys: &[u64]) -> Fault
     let given = is_in(keys, key(name));
     let used = uses_given(piece, keys);
     if !line {
-        return Fault::Malformed;
+        return Err(Fault::Malformed);
     }
     if given {
-        return Fault::NameGiven;
+        return Err(Fault::NameGiven);
     }
     if !used {
-        return Fault::NameUnknown;
+        return Err(Fault::NameUnknown);
     }
-    Fault::Sound
+    Ok(())
 }

@@ -14,46 +14,29 @@ const SEVEN: u64 = 34359738368;
 pub fn find_from(s: &[u8], b: u8, at: usize) -> usize
     ensures { result ≡ at + index_of b (drop at s.now) }
 {
-    let mut i = at;
-    while i < s.len() {
-        if s[i] == b {
-            return i;
-        }
-        i += 1;
-    }
-    i
+    let rest = slices::cut(s, at, s.len());
+    at + slices::find(rest, b)
 }
 
 // The number of a name, by which it is told from others: its letters are the digits, the first the lowest.
 pub fn key(name: &[u8]) -> u64
     ensures { result ≡ key_of name.now }
 {
-    let mut key = 0;
-    let mut i = name.len();
-    while 0 < i {
-        i -= 1;
-        key = key % SEVEN * BASE + name[i] as u64 % BASE;
-    }
-    key
+    name.iter()
+        .rev()
+        .fold(0, |key, b| key % SEVEN * BASE + u64::from(*b) % BASE)
 }
 
 // The index of the first number `key`, the length where there is none.
 pub fn index_of(keys: &[u64], key: u64) -> usize
     ensures { result ≡ index_of key keys.now }
 {
-    let mut at = 0;
-    while at < keys.len() {
-        if keys[at] == key {
-            return at;
-        }
-        at += 1;
-    }
-    at
+    keys.iter().position(|k| *k == key).unwrap_or(keys.len())
 }
 
 // Whether the number `key` is among them.
 pub fn is_in(keys: &[u64], key: u64) -> bool
     ensures { result ≡ is_in key keys.now }
 {
-    index_of(keys, key) < keys.len()
+    keys.contains(&key)
 }

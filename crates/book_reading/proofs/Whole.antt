@@ -1,25 +1,37 @@
 -- What is read of a whole book, and what is answered of a refusal: the tests of the whole in their order. Assumes nothing.
 use Prim.Native.Nat.{ℕ, ◌≤◌, ◌<◌}
+use native.Mathlib.Omega.{arith}
 use mathlib.Core.Path.{◌≡◌, refl, sym, ◌∙◌, ap, ap₂}
 use mathlib.Core.Bool.{Bool, true, false, not}
 use mathlib.Core.List.{List, []}
 use borrow.Author.Tests.{eq-eqb, ne_eqb, lt-ltb, le-ltb}
 use lib.Dec.{eqb, ltb}
 use lib.ListN.{length}
-use Rattle.reading.specs.Reply.{Reply, refuse_if}
+use Rattle.std.specs.Prelude.{Err}
+use Rattle.reading.specs.Reply.{Reply, number_in, refuse_if, passed_on}
+use Rattle.book_lines.specs.Number.{refusal_of as fault}
+use Rattle.book_lines.specs.declared.Fault.{Fault}
+use Rattle.book_lines.specs.declared.Fault.TheVariants.{Malformed, NameGiven, NameUnknown}
 use Rattle.slices.specs.Split.{line_feed, lines, last_byte}
 use Rattle.books.specs.Line.{Line}
 use Rattle.books.specs.Book.{book_limit, book_from, book_of}
-use Rattle.book_reading.specs.declared.BookReading.{BookReading}
-use Rattle.book_reading.specs.Answer.{answer_of}
-use Rattle.book_reading.specs.Table.{no_keys, count_of, table_of}
+use Rattle.book_reading.specs.declared.Refused.{Refused}
+use Rattle.book_reading.specs.Answer.{refusal_of, answer_of, keys_in}
+use Rattle.book_reading.specs.Table.{count_of, table_of}
 
 -- a refusal has no numbers of names
 pub refuses :
-    {was answer : BookReading} {keys : List ℕ} {reply : Reply (List Line)} (number place : ℕ) → (was ≡ answer) × (keys ≡ no_keys) →
-    answer_of answer ≡ Reply.refused number place → Reply.refused number place ≡ reply →
-    (answer_of was ≡ count_of reply) × (keys ≡ table_of reply)
-refuses number place (same, zeros) numbered e = (ap answer_of same ∙ numbered ∙ ap count_of e, zeros ∙ ap table_of e)
+    (refused : Refused) {reply : Reply (List Line)} (number place : ℕ) → refusal_of refused ≡ Reply.refused number place →
+    Reply.refused number place ≡ reply →
+    (answer_of (Err refused) ≡ count_of reply) × (keys_in (Err refused) ≡ table_of reply)
+refuses refused number place numbered e =
+    (ap passed_on numbered ∙ ap count_of e, ap table_of e)
+
+-- the numbers of faults are others than 0
+pub fault-numbered : (wrong : Fault) → number_in (fault wrong) ≡ 0 → ⊥
+fault-numbered Malformed e = omega arith
+fault-numbered NameGiven e = omega arith
+fault-numbered NameUnknown e = omega arith
 
 -- the refusals of the whole, in their order
 abbrev refusals : (long empty unended : Bool) → Reply (List Line) → Reply (List Line)

@@ -1,15 +1,24 @@
--- The number and the value of each case of the answer (REQUIREMENTS, Catalogue).
+-- The number and the place of each case that an entry is refused for, and the value of each that is answered (REQUIREMENTS, Catalogue).
+use Rattle.std.specs.Prelude.{Result, Ok, Err}
 use Rattle.reading.specs.Reply.{Reply, passed_on}
-use Rattle.reading.specs.Answer.{answer_of as readingAnswer}
+use Rattle.reading.specs.Answer.{refusal_of as misread_of}
 use Rattle.entries.specs.Entering.{Entered}
-use Rattle.catalogue.specs.declared.Entering.{Entering}
-use Rattle.catalogue.specs.declared.Entering.TheVariants.{StoreTooShort, NoCatalogue, Unread, NotNormal, Full, Known, New}
+use Rattle.catalogue.specs.declared.Refused.{Refused}
+use Rattle.catalogue.specs.declared.Refused.TheVariants.{StoreTooShort, NoCatalogue, Unread, NotNormal, Full}
+use Rattle.catalogue.specs.declared.Entered.{Entered as Declared}
+use Rattle.catalogue.specs.declared.Entered.TheVariants.{Known, New}
 
-abbrev pub answer_of : Entering → Reply Entered
-answer_of StoreTooShort = Reply.refused 2 0
-answer_of NoCatalogue = Reply.refused 28 0
-answer_of (Unread reading) = passed_on (readingAnswer reading)
-answer_of NotNormal = Reply.refused 29 0
-answer_of Full = Reply.refused 30 0
-answer_of (Known number) = Reply.answered (Entered.known number)
-answer_of (New number) = Reply.answered (Entered.new number)
+abbrev pub refusal_of : Refused → Reply ⊥
+refusal_of StoreTooShort = Reply.refused 2 0
+refusal_of NoCatalogue = Reply.refused 28 0
+refusal_of (Unread misread) = misread_of misread
+refusal_of NotNormal = Reply.refused 29 0
+refusal_of Full = Reply.refused 30 0
+
+abbrev pub entered_of : Declared → Entered
+entered_of (Known number) = Entered.known number
+entered_of (New number) = Entered.new number
+
+abbrev pub answer_of : Result Declared Refused → Reply Entered
+answer_of (Ok entered) = Reply.answered (entered_of entered)
+answer_of (Err refused) = passed_on (refusal_of refused)

@@ -11,6 +11,7 @@ pub const CELL_LIMIT: usize = 65536;
 
 // What stands in the place of a letter in the list's cells: a term behind the part in focus, the argument of that part, or the pair that
 // it is the argument of.
+// Kept: numbers, and no enum, since a cell is one number (no heap, fixed memory), and the kind stands in it where a letter else stands.
 pub const PENDING: u8 = 0;
 
 pub const ARGUMENT: u8 = 1;
@@ -51,13 +52,15 @@ pub fn packed(letter: u8, first: usize, second: usize, size: usize) -> u64
     requires { (first < cell_limit) × (second < cell_limit) × (size < size_limit) }
     ensures { result ≡ cell.packed letter first second size }
 {
-    letter as u64
+    u64::from(letter)
         + first as u64 * 65536
         + second as u64 * 4294967296
         + size as u64 * 281474976710656
 }
 
 // Writes the node of two terms at the top.
+// Kept: the cells and the top are two parameters here and in what builds on this, and no struct: a clause names a slice that a struct
+// lends by its entry and its exit, so each contract would be longer.
 pub fn node(cells: &mut [u64], top: usize, letter: u8, first: usize, second: usize)
     requires { Joinable cells.old top first second }
     ensures { cells.new ≡ set cells.old top

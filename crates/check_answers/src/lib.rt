@@ -7,7 +7,7 @@ ghost use Rattle.checking.specs.Answer.{answer_of};
 ghost use Rattle.answer_lines.specs.Shown.{shown_check};
 ghost use Rattle.answering.specs.Program.{check_program};
 
-use checking::Checking;
+use checking::Refused;
 
 // The checking program's line for a file, put at the start of `out`; the answer is its length. Where it does not fit, `out` stays and the
 // answer is 0.
@@ -15,21 +15,16 @@ pub fn answer_check(file: &[u8], out: &mut [u8]) -> usize
     ensures { (out.new ≡ put 0 (check_program file.now) out.old)
         × (result ≡ behind 0 (check_program file.now) out.old) }
 {
-    print_checking(checking::check_derivation(file), out)
+    print_checking(&checking::check_derivation(file), out)
 }
 
 // The line of checking's answer.
-fn print_checking(answer: Checking, out: &mut [u8]) -> usize
-    ensures { (out.new ≡ put 0 (shown_check (answer_of answer)) out.old)
-        × (result ≡ behind 0 (shown_check (answer_of answer)) out.old) }
+fn print_checking(answer: &Result<usize, Refused>, out: &mut [u8]) -> usize
+    ensures { (out.new ≡ put 0 (shown_check (answer_of answer.now)) out.old)
+        × (result ≡ behind 0 (shown_check (answer_of answer.now)) out.old) }
 {
-    let Checking::Accepted(lines) = answer else {
-        return printing::print_numbers(
-            b"refused",
-            checking::number(answer),
-            checking::place(answer) as u64,
-            out,
-        );
-    };
-    printing::print_count(b"accepted", lines as u64, out)
+    match answer {
+        Ok(lines) => printing::print_count(b"accepted", *lines as u64, out),
+        Err(refused) => answer_lines::print_refusal(refused, out),
+    }
 }

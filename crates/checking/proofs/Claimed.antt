@@ -3,16 +3,12 @@ use Prim.Native.Nat.{ℕ, ◌≤◌}
 use mathlib.Core.Path.{◌≡◌, refl, sym, ◌∙◌, ap}
 use mathlib.Core.List.{List, [], ◌∷◌}
 use lib.ListN.{length, drop, drop_of_length-le}
-use Rattle.reading.specs.Reply.{Reply}
 use Rattle.slices.specs.Split.{lines, fields}
 use Rattle.fields.specs.Fields.{six_at, has_six, Texts, texts_at}
 use Rattle.fields.specs.declared.Judged.{Judged}
 use Rattle.fields.proofs.Cutting.{first_line, six-found}
-use Rattle.checking.specs.Answer.{answer_of}
 use Rattle.derivation_files.specs.Claim.{last_line}
-use Rattle.checking.specs.Claim.{first_three, no_texts, claim_texts, nowhere, refusal_of}
-use Rattle.checking.specs.declared.Checked.{Checked}
-use Rattle.checking.specs.declared.Checking.{Checking}
+use Rattle.checking.specs.Claim.{first_three, claim_of}
 use mathlib.Core.Bool.{true}
 
 -- the first three fields of the last of some lines, and other texts where there is none
@@ -25,13 +21,17 @@ last-texts :
 last-texts line [] = refl
 last-texts line (next ∷ rest) = last-texts next rest
 
-all-texts : (ls : List (List ℕ)) → last_texts no_texts ls ≡ first_three (fields (last_line ls))
+-- the places of empty texts
+abbrev pub nowhere : Judged
+nowhere = record { context = record { from = 0; to = 0 }; term = record { from = 0; to = 0 }; ty = record { from = 0; to = 0 } }
+
+all-texts : (ls : List (List ℕ)) → last_texts (first_three []) ls ≡ first_three (fields (last_line ls))
 all-texts [] = refl
 all-texts (line ∷ rest) = last-texts line rest
 
 -- the lines from `at` on decide the claim of the file, with those texts where there is none
 abbrev pub Claimed : (file : List ℕ) (claim : Judged) (at : ℕ) → Type 0
-Claimed file claim at = last_texts (texts_at claim file) (lines (drop at file)) ≡ first_three (fields (last_line (lines file)))
+Claimed file claim at = last_texts (texts_at claim file) (lines (drop at file)) ≡ claim_of file
 
 pub claim-start : (file : List ℕ) → Claimed file nowhere 0
 claim-start file = all-texts (lines file)
@@ -46,21 +46,6 @@ claim-next file claim at next six cut claimed =
     ∙ ap (λ (t : List (List ℕ)). last_texts (first_three t) (lines (drop next file))) (six-found file at six).0) ∙ claimed
 
 pub claim-end :
-    (file : List ℕ) (claim : Judged) (n at : ℕ) (reply : Reply ℕ) → Claimed file claim at → length file ≤ at → Reply.answered n ≡ reply →
-    texts_at claim file ≡ claim_texts reply file
-claim-end file claim n at reply claimed h e =
+    (file : List ℕ) (claim : Judged) (at : ℕ) → Claimed file claim at → length file ≤ at → texts_at claim file ≡ claim_of file
+claim-end file claim at claimed h =
     ap (λ (l : List ℕ). last_texts (texts_at claim file) (lines l)) (sym (drop_of_length-le file h)) ∙ claimed
-    ∙ ap (λ (r : Reply ℕ). claim_texts r file) e
-
--- ---- refusals
-
--- a refusal has no claim
-pub refuses :
-    (file : List ℕ) (r : Checked) (answer : Checking) (number line : ℕ) (reply : Reply ℕ) → r ≡ refusal_of answer →
-    answer_of answer ≡ Reply.refused number line →
-    Reply.refused number line ≡ reply → (answer_of r.answer ≡ reply) × (texts_at r.claim file ≡ claim_texts reply file)
-refuses file r answer number line reply p q e = (
-  ap (λ (x : Checked). answer_of x.answer) p ∙ q ∙ e,
-  ap (λ (x : Checked). texts_at x.claim file) p
-      ∙ ap (λ (x : Reply ℕ). claim_texts x file) e,
-)

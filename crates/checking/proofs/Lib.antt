@@ -1,4 +1,3 @@
 -- The laws that the code's proofs cite.
 pub mod Claimed
 pub mod Walk
-pub mod Refused

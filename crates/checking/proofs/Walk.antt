@@ -3,14 +3,16 @@ use Prim.Native.Nat.{ℕ, zero, suc, ◌+◌, ◌-◌, ◌≤◌, ◌<◌}
 use native.Mathlib.Numerals.{add-one}
 use native.Mathlib.Omega.{arith}
 use native.Mathlib.Decide.{dec_le}
-use mathlib.Core.Path.{◌≡◌, refl, sym, ◌∙◌, ap, ap₂}
-use mathlib.Core.Bool.{Bool, true, false, not}
+use mathlib.Core.Path.{◌≡◌, refl, sym, ◌∙◌, ap, ap₂, subst}
+use mathlib.Core.Bool.{Bool, true, false, not, cond}
 use mathlib.Core.List.{List, [], ◌∷◌, ◌++◌}
 use mathlib.Core.Option.{none, some}
 use borrow.Author.Tests.{eq-eqb, ne_eqb, lt-ltb, le-ltb}
 use lib.Dec.{eqb, ltb}
-use lib.ListN.{length, get_or, drop, set, drop_of_length-le, length-append, length-set}
-use lib.Seq.{drop-cons, get_or-set_same, get_or-set_other}
+use lib.ListN.{length, get_or, take, drop, set, drop_of_length-le, length-append, length-set, length-take}
+use lib.Seq.{get_or-set_same, get_or-set_other, get_or-take}
+use Rattle.std.specs.Prelude.{Ok, Err, count_by, ◌==◌}
+use Rattle.std.proofs.lemmas.List.Recursion.{is_count_by}
 use Rattle.reading.specs.Reply.{Reply, refuse_if}
 use Rattle.calculus.specs.Limits.{file_limit, line_limit}
 use Rattle.calculus.specs.Typing.{Judgement}
@@ -19,11 +21,11 @@ use Rattle.derivation_files.specs.Checking.{Found, earlier_line, found_fields, o
 use Rattle.fields.specs.Fields.{judged_at, six_at, Texts, texts_at}
 use Rattle.derivation_lines.specs.declared.Fault.{Fault}
 use Rattle.derivation_lines.specs.Number.{number_of}
-use Rattle.derivation_lines.specs.TextLine.{line_fault}
-use Rattle.checking.specs.Claim.{claim_texts, nowhere}
+use Rattle.derivation_lines.specs.TextLine.{Outcome, line_fault}
+use Rattle.checking.specs.Claim.{claim_of}
 use Rattle.fields.specs.declared.Judged.{Judged}
 use Rattle.fields.specs.declared.SixFields.{SixFields}
-use Rattle.checking.proofs.Claimed.{Claimed, claim-start, claim-next, claim-end}
+use Rattle.checking.proofs.Claimed.{Claimed, nowhere, claim-start, claim-next, claim-end}
 use Rattle.instances.proofs.TextInstance.{texts_of}
 use Rattle.fields.proofs.Cutting.{head_of, tail_of, first_line, later_pieces, some-piece, line-ends}
 use Rattle.derivation_lines.proofs.TextLine.{Table, Verdict, earlier-none, line-verdict, follows_six}
@@ -67,25 +69,21 @@ lines-first bytes more = ap all_but_last (some-piece line_feed bytes) ∙ go (la
 
 -- ---- what a verdict says of the whole
 
--- the fault that was found is that of the line at an index
-pub same_number :
-    (file starts : List ℕ) (n at : ℕ) {six : SixFields} {fault : Fault} → six ≡ six_at file at → fault ≡ line_fault file starts n six →
-    number_of fault ≡ number_of (line_fault file starts n (six_at file at))
-same_number file starts n at p q = ap number_of (q ∙ ap (line_fault file starts n) p)
-
 -- a line that does not follow is the first bad one
-pub refused-whole :
-    (own : Texts) (n : ℕ) (fault : Fault) (found : Found) (rest : Judgement → Reply ℕ) →
-    Verdict own fault found → (number_of fault ≡ 0 → ⊥) → Reply.refused (number_of fault) (n + 1) ≡ onward n found rest
-refused-whole own n fault found rest (Verdict.good j e) wrong = absurd (wrong refl)
-refused-whole own n fault found rest (Verdict.bad f e) wrong = ap (Reply.refused (number_of f)) (add-one n)
+refused-whole :
+    (own : Texts) (n : ℕ) (fault : Fault) {outcome : Outcome} (found : Found) (rest : Judgement → Reply ℕ) →
+    Verdict own outcome found → Err fault ≡ outcome → Reply.refused (number_of fault) (n + 1) ≡ onward n found rest
+refused-whole own n fault found rest (Verdict.good j e) wrong = cc
+refused-whole own n fault found rest (Verdict.bad f) wrong =
+    let same : fault ≡ f = cc in
+    ap₂ Reply.refused (ap number_of same) (add-one n)
 
 -- a line that follows has its judgement
 found-good :
-    (own : Texts) (fault : Fault) (found : Found) → Verdict own fault found → number_of fault ≡ 0 →
+    (own : Texts) {outcome : Outcome} (found : Found) → Verdict own outcome found → Ok tt ≡ outcome →
     (j : Judgement) × (own ≡ texts_of j) × (found ≡ Found.good j)
-found-good own fault found (Verdict.good j e) right = (j, e, refl)
-found-good own fault found (Verdict.bad f e) right = absurd (e right)
+found-good own found (Verdict.good j e) right = (j, e, refl)
+found-good own found (Verdict.bad f) right = cc
 
 -- ---- the table, one line longer
 
@@ -147,11 +145,11 @@ start file starts size =
 -- what the code answers behind the last line
 pub at-end :
     (file starts : List ℕ) (n at : ℕ) (claim : Judged) → Passed file starts n at claim → length file ≤ at →
-    (Reply.answered n ≡ check_lines 0 [] (lines file)) × (texts_at claim file ≡ claim_texts (check_lines 0 [] (lines file)) file)
-at-end file starts n at claim passed h =
-    let whole : Reply.answered n ≡ check_lines 0 [] (lines file) =
-    ap (λ (l : List ℕ). check_lines n passed.earlier (lines l)) (sym (drop_of_length-le file h)) ∙ passed.comes in
-    (whole, claim-end file claim n at (check_lines 0 [] (lines file)) passed.claimed h whole)
+    (Reply.answered n ≡ check_lines 0 [] (lines file)) × (texts_at claim file ≡ claim_of file)
+at-end file starts n at claim passed h = (
+  ap (λ (l : List ℕ). check_lines n passed.earlier (lines l)) (sym (drop_of_length-le file h)) ∙ passed.comes,
+  claim-end file claim at passed.claimed h,
+)
 
 module _
     (file starts : List ℕ)
@@ -167,51 +165,83 @@ module _
   room few = let one = ap length one_line in omega (arith, passed.left)
 
   module _ (few : length (lines file) ≤ line_limit) where
-    verdict :
-        Verdict (texts_at (judged_at file at) file) (line_fault file starts n (six_at file at))
-        (found_fields passed.earlier (fields (first_line (drop at file))))
-    verdict = line-verdict file starts n passed.earlier passed.count (room few) passed.table at
+    -- what is wrong with the line that begins there, where the earlier lines' starts were given
+    module _
+        {outcome : Outcome}
+        {front : List ℕ}
+        {six : SixFields}
+        (cut : front ≡ take n starts)
+        (whole : six ≡ six_at file at)
+        (judged : outcome ≡ line_fault file front (length front) six) where
+      here : outcome ≡ line_fault file (take n starts) n (six_at file at)
+      here =
+          let size : length (take n starts) ≡ n = omega (arith, length-take n starts, passed.size, room few) in
+          judged
+          ∙ ap₂ (λ (s : List ℕ) (l : SixFields). line_fault file s (length s) l) cut whole
+          ∙ ap (λ (k : ℕ). line_fault file (take n starts) k (six_at file at)) size
 
-    -- at a bad line
-    pub refused :
-        (number_of (line_fault file starts n (six_at file at)) ≡ 0 → ⊥) →
-        Reply.refused (number_of (line_fault file starts n (six_at file at))) (n + 1) ≡ check_lines 0 [] (lines file)
-    refused wrong =
-        refused-whole (texts_at (judged_at file at) file) n (line_fault file starts n (six_at file at))
-        (found_fields passed.earlier (fields (first_line (drop at file))))
-        (λ j. check_lines (suc n) (passed.earlier ++ (j ∷ [])) (all_but_last (later_pieces (drop at file)))) verdict wrong ∙
-        ap (check_lines n passed.earlier) (sym one_line) ∙ passed.comes
+      table : Table file (take n starts) passed.earlier
+      table m i e = go (dec_le n m)
+        where
+          go : Dec (n ≤ m) → texts_at (judged_at file (get_or (take n starts) m 0)) file ≡ texts_of i
+          go (yes past) =
+              let nothing : none ≡ some i = sym (earlier-none passed.earlier m (omega (arith, passed.count))) ∙ e in
+              cc
+          go (no before) =
+              ap (λ (k : ℕ). texts_at (judged_at file k) file) (get_or-take n starts m 0 (omega arith)) ∙ passed.table m i e
 
-    -- behind a good line
-    pub again :
-        number_of (line_fault file starts n (six_at file at)) ≡ 0 →
-        ((six_at file at).second.to < length file)
-        × Passed file (set starts n at) (n + 1) ((six_at file at).second.to + 1) (six_at file at).own
-    again right =
-        let six = follows_six file starts n (six_at file at) right in
-        let (ends, later) = line-ends file at six (line-left file at last within) in
-        let (j, same, good) = found-good (texts_at (judged_at file at) file) (line_fault file starts n (six_at file at))
-        (found_fields passed.earlier (fields (first_line (drop at file)))) verdict right in
-        let rest : lines (drop at file) ≡ first_line (drop at file) ∷ lines (drop ((six_at file at).second.to + 1) file) = one_line
-        ∙ ap (λ (ps : List (List ℕ)). first_line (drop at file) ∷ all_but_last ps) later in
-        let one = ap length rest in (
-          ends,
-          record {
-            earlier = passed.earlier ++ (j ∷ []);
-            count = omega (arith, length-append passed.earlier (j ∷ []), passed.count);
-            size = length-set starts n at ∙ passed.size;
-            table =
-                table_longer file starts passed.earlier j n at passed.count (omega (arith, passed.size, room few)) same
-                passed.table;
-            left = omega (arith, passed.left);
-            comes =
-                ap (λ (k : ℕ). check_lines k (passed.earlier ++ (j ∷ [])) (lines (drop ((six_at file at).second.to + 1) file))) (add-one n) ∙
-                sym (ap (λ (found : Found). onward n found
-                (λ i. check_lines (suc n) (passed.earlier ++ (i ∷ [])) (lines (drop ((six_at file at).second.to + 1) file)))) good) ∙
-                ap (check_lines n passed.earlier) (sym rest) ∙ passed.comes;
-            claimed = claim-next file claim at ((six_at file at).second.to + 1) six rest passed.claimed;
-          },
-        )
+      verdict :
+          Verdict (texts_at (judged_at file at) file) outcome (found_fields passed.earlier (fields (first_line (drop at file))))
+      verdict =
+          subst
+          (λ (o : Outcome). Verdict (texts_at (judged_at file at) file) o (found_fields passed.earlier (fields (first_line (drop at file)))))
+          (sym here)
+          (line-verdict file (take n starts) n passed.earlier passed.count (room few) table at)
+
+      -- at a bad line
+      pub refused : (fault : Fault) → Err fault ≡ outcome → Reply.refused (number_of fault) (n + 1) ≡ check_lines 0 [] (lines file)
+      refused fault wrong =
+          refused-whole (texts_at (judged_at file at) file) n fault
+          (found_fields passed.earlier (fields (first_line (drop at file))))
+          (λ j. check_lines (suc n) (passed.earlier ++ (j ∷ [])) (all_but_last (later_pieces (drop at file)))) verdict wrong ∙
+          ap (check_lines n passed.earlier) (sym one_line) ∙ passed.comes
+
+      -- behind a good line
+      onwards :
+          Ok tt ≡ outcome →
+          ((six_at file at).second.to < length file)
+          × Passed file (set starts n at) (n + 1) ((six_at file at).second.to + 1) (six_at file at).own
+      onwards right =
+          let six = follows_six file (take n starts) n (six_at file at) (right ∙ here) in
+          let (ends, later) = line-ends file at six (line-left file at last within) in
+          let (j, same, good) = found-good (texts_at (judged_at file at) file)
+          (found_fields passed.earlier (fields (first_line (drop at file)))) verdict right in
+          let rest : lines (drop at file) ≡ first_line (drop at file) ∷ lines (drop ((six_at file at).second.to + 1) file) = one_line
+          ∙ ap (λ (ps : List (List ℕ)). first_line (drop at file) ∷ all_but_last ps) later in
+          let one = ap length rest in (
+            ends,
+            record {
+              earlier = passed.earlier ++ (j ∷ []);
+              count = omega (arith, length-append passed.earlier (j ∷ []), passed.count);
+              size = length-set starts n at ∙ passed.size;
+              table =
+                  table_longer file starts passed.earlier j n at passed.count (omega (arith, passed.size, room few)) same
+                  passed.table;
+              left = omega (arith, passed.left);
+              comes =
+                  ap (λ (k : ℕ). check_lines k (passed.earlier ++ (j ∷ [])) (lines (drop ((six_at file at).second.to + 1) file))) (add-one n) ∙
+                  sym (ap (λ (found : Found). onward n found
+                  (λ i. check_lines (suc n) (passed.earlier ++ (i ∷ [])) (lines (drop ((six_at file at).second.to + 1) file)))) good) ∙
+                  ap (check_lines n passed.earlier) (sym rest) ∙ passed.comes;
+              claimed = claim-next file claim at ((six_at file at).second.to + 1) six rest passed.claimed;
+            },
+          )
+
+      pub again : Ok tt ≡ outcome → (six.second.to < length file) × Passed file (set starts n at) (n + 1) (six.second.to + 1) six.own
+      again right =
+          subst
+          (λ (l : SixFields). (l.second.to < length file) × Passed file (set starts n at) (n + 1) (l.second.to + 1) l.own)
+          (sym whole) (onwards right)
 
 -- ---- counting lines
 
@@ -228,31 +258,16 @@ length-feed :
 length-feed [] e = let z : ◌≡◌ {A = ℕ} 0 1 = ap length e in absurd (omega arith)
 length-feed (piece ∷ pieces) e = refl
 
-at_byte :
-    (s : List ℕ) (at : ℕ) → at < length s →
-    lines (drop at s) ≡ all_but_last (cut_or (eqb (get_or s at 0) line_feed) (get_or s at 0) (split line_feed (drop (at + 1) s)))
-at_byte s at h =
-    ap lines (drop-cons s at 0 h) ∙
-    ap (λ (k : ℕ). all_but_last (cut_or (eqb (get_or s at 0) line_feed) (get_or s at 0) (split line_feed (drop k s)))) (sym (add-one at))
-
-pub at-feed :
-    (s : List ℕ) (at : ℕ) → at < length s → get_or s at 0 ≡ line_feed → length (lines (drop at s)) ≡ suc (length (lines (drop (at + 1) s)))
-at-feed s at h e =
-    ap length
-    (at_byte s at h
-    ∙ ap (λ (t : Bool). all_but_last (cut_or t (get_or s at 0) (split line_feed (drop (at + 1) s)))) (eq-eqb (get_or s at 0) line_feed e)) ∙
-    length-feed (split line_feed (drop (at + 1) s)) (some-piece line_feed (drop (at + 1) s))
-
-pub at_other :
-    (s : List ℕ) (at : ℕ) → at < length s → (get_or s at 0 ≡ line_feed → ⊥) → length (lines (drop at s)) ≡ length (lines (drop (at + 1) s))
-at_other s at h n =
-    ap length
-    (at_byte s at h
-    ∙ ap (λ (t : Bool). all_but_last (cut_or t (get_or s at 0) (split line_feed (drop (at + 1) s)))) (ne_eqb (get_or s at 0) line_feed n)) ∙
-    length_longer (get_or s at 0) (split line_feed (drop (at + 1) s)) (some-piece line_feed (drop (at + 1) s))
-
-pub no_more : (s : List ℕ) (at : ℕ) → length s ≤ at → length (lines (drop at s)) ≡ 0
-no_more s at h = ap (λ (l : List ℕ). length (lines l)) (drop_of_length-le s h)
+-- each line feed ends a line
+pub lines_counted : (s : List ℕ) → length (lines s) ≡ count_by (λ (b : ℕ). b == line_feed) s
+lines_counted = is_count_by (λ (s : List ℕ). length (lines s)) (λ (b : ℕ). b == line_feed) refl (λ b s. more b s (eqb b line_feed))
+  where
+    more :
+        (b : ℕ) (s : List ℕ) (t : Bool) →
+        length (all_but_last (cut_or t b (split line_feed s))) ≡ cond t (1 + length (lines s)) (length (lines s))
+    more b s true =
+        let longer = length-feed (split line_feed s) (some-piece line_feed s) in omega arith
+    more b s false = length_longer b (split line_feed s) (some-piece line_feed s)
 
 -- ---- the whole file
 

@@ -1,22 +1,22 @@
 // Checking derivation files; what they are and what is answered stands in derivation_files.
 #![tactic(auto)]
 
-ghost use Rattle.std.specs.Prelude.{◌≡◌, ◌≤◌, [], length};
-ghost use Rattle.reading.specs.Reply.{number_in, place_in};
+ghost use Rattle.std.specs.Prelude.{◌≡◌, ◌≤◌, ◌==◌, [], length, count_by, IfOk};
 ghost use Rattle.calculus.specs.Limits.{line_limit};
 ghost use Rattle.slices.specs.Split.{line_feed, lines, last_byte};
 ghost use Rattle.derivation_files.specs.Checking.{check_lines, checking_of};
-ghost use Rattle.fields.specs.Fields.{texts_at};
-ghost use Rattle.checking.specs.Answer.{answer_of};
-ghost use Rattle.checking.specs.Claim.{claim_texts, nowhere, refusal_of};
+ghost use Rattle.fields.specs.Fields.{texts_now};
+ghost use Rattle.checking.specs.Answer.{refusal_of, answer_of, lines_of};
+ghost use Rattle.checking.specs.Claim.{claim_of};
 
 use derivation_lines::{Fault, check_line};
-use fields::texts::Span;
-use fields::{Judged, six_at};
+use fields::{Judged, Texts, six_at};
+use reading::Refusal;
+use slices::Span;
 
-// What checking answers; specs/Answer.antt gives the number and the value of each case.
+// What checking refuses a file for; specs/Answer.antt gives the number and the line of each case.
 #[derive(Clone, Copy)]
-pub enum Checking {
+pub enum Refused {
     // The file is over 65,536 bytes.
     FileTooLong,
     // The file is empty.
@@ -27,133 +27,106 @@ pub enum Checking {
     TooManyLines,
     // What is wrong with the first bad line, and which that is.
     BadLine(Fault, usize),
-    // Every line follows; the number of lines.
-    Accepted(usize),
 }
 
-// The number of a refusal, 0 of an accepted file.
-pub fn number(answer: Checking) -> u64
-    ensures { result ≡ number_in (answer_of answer) }
-{
-    match answer {
-        Checking::FileTooLong => 10,
-        Checking::FileEmpty => 11,
-        Checking::NoLineEnd => 12,
-        Checking::TooManyLines => 13,
-        Checking::BadLine(fault, _) => derivation_lines::number(fault),
-        Checking::Accepted(_) => 0,
+impl Refusal for Refused {
+    ghost refusal = { refusal_of };
+
+    fn number(&self) -> u64 {
+        match *self {
+            Refused::FileTooLong => 10,
+            Refused::FileEmpty => 11,
+            Refused::NoLineEnd => 12,
+            Refused::TooManyLines => 13,
+            Refused::BadLine(fault, _) => fault.number(),
+        }
+    }
+
+    fn place(&self) -> usize {
+        match *self {
+            Refused::BadLine(_, line) => line,
+            _ => 0,
+        }
     }
 }
 
-// The line of a refusal, 0 of an accepted file.
-pub fn place(answer: Checking) -> usize
-    ensures { result ≡ place_in (answer_of answer) }
-{
-    match answer {
-        Checking::FileTooLong => 0,
-        Checking::FileEmpty => 0,
-        Checking::NoLineEnd => 0,
-        Checking::TooManyLines => 0,
-        Checking::BadLine(_, line) => line,
-        Checking::Accepted(_) => 0,
-    }
-}
-
-// What checking answers of a file, and where the context, the term and the type of its last line stand; empty places beside a refusal.
+// What is found of a file whose every line follows: the number of lines, and the context, the term and the type of the last.
 #[derive(Clone, Copy)]
-pub struct Checked {
-    pub answer: Checking,
-    pub claim: Judged,
+pub struct Checked<'a> {
+    pub lines: usize,
+    pub claim: Texts<'a>,
 }
 
-// Checks a derivation file of any bytes.
-pub fn check_derivation(file: &[u8]) -> Checking
+// Checks a derivation file of any bytes, and answers the number of lines.
+pub fn check_derivation(file: &[u8]) -> Result<usize, Refused>
     ensures { answer_of result ≡ checking_of file.now }
 {
-    check_claim(file).answer
+    Ok(check_claim(file)?.lines)
 }
 
 // Checks a derivation file of any bytes, and finds what its last line claims.
-pub fn check_claim(file: &[u8]) -> Checked
-    ensures answer_value { answer_of result.answer ≡ checking_of file.now }
-    ensures claim { texts_at result.claim file.now ≡ claim_texts (checking_of file.now) file.now }
+pub fn check_claim(file: &[u8]) -> Result<Checked, Refused>
+    ensures answer { answer_of (lines_of result) ≡ checking_of file.now }
+    ensures claim { IfOk result (λ checked. texts_now checked.claim ≡ claim_of file.now) }
 {
     if calculus::FILE_LIMIT < file.len() {
-        return refusal(Checking::FileTooLong);
+        return Err(Refused::FileTooLong);
     }
     if file.len() == 0 {
-        return refusal(Checking::FileEmpty);
+        return Err(Refused::FileEmpty);
     }
     if slices::byte_at(file, file.len() - 1) != slices::LINE_FEED {
-        return refusal(Checking::NoLineEnd);
+        return Err(Refused::NoLineEnd);
     }
     if calculus::LINE_LIMIT < line_count(file) {
-        return refusal(Checking::TooManyLines);
+        return Err(Refused::TooManyLines);
     }
     check_lines(file)
 }
 
-// A refusal has no claim.
-fn refusal(answer: Checking) -> Checked
-    ensures { result ≡ refusal_of answer }
-{
-    Checked {
-        answer,
-        claim: no_claim(),
-    }
-}
-
-fn no_claim() -> Judged
-    ensures { result ≡ nowhere }
-{
-    let nothing = Span { from: 0, to: 0 };
-    Judged {
-        context: nothing,
-        term: nothing,
-        ty: nothing,
-    }
-}
-
-// The number of lines.
+// The number of lines: each ends with a line feed.
+// Kept: `filter` and `count` are slower, as the compiler looks at one byte at a time there, and at many in this loop.
 fn line_count(file: &[u8]) -> usize
-    ensures { result ≡ length (lines file.now) }
+    ensures { result ≡ count_by (λ b. b == line_feed) file.now }
 {
     let mut count: usize = 0;
-    let mut at = 0;
-    while at < file.len() {
-        if file[at] == slices::LINE_FEED {
+    for b in file {
+        if *b == slices::LINE_FEED {
             count += 1;
         }
-        at += 1;
     }
     count
 }
 
-// Line by line: the first bad line, or accepted with their number.
-// Of the lines passed it keeps where they begin, and the claim of the last.
-fn check_lines(file: &[u8]) -> Checked
+// Line by line: the first bad line, or their number and the claim of the last.
+// Of the lines passed it keeps where they begin, and where the claim of the last stands.
+fn check_lines(file: &[u8]) -> Result<Checked, Refused>
     requires { (last_byte file.now ≡ line_feed) × (length (lines file.now) ≤ line_limit) }
-    ensures answer_value { answer_of result.answer ≡ check_lines 0 [] (lines file.now) }
-    ensures claim { texts_at result.claim file.now
-        ≡ claim_texts (check_lines 0 [] (lines file.now)) file.now }
+    ensures answer { answer_of (lines_of result) ≡ check_lines 0 [] (lines file.now) }
+    ensures claim { IfOk result (λ checked. texts_now checked.claim ≡ claim_of file.now) }
 {
+    let nothing = Span { from: 0, to: 0 };
+    let mut claim = Judged {
+        context: nothing,
+        term: nothing,
+        ty: nothing,
+    };
     let mut starts = [0usize; calculus::LINE_LIMIT];
     let mut n: usize = 0;
     let mut at: usize = 0;
-    let mut claim = no_claim();
+    // Kept: a `while`, since each turn goes on behind a line.
     while at < file.len() {
         let line = six_at(file, at);
-        let fault = check_line(file, &starts, n, line);
-        if derivation_lines::number(fault) != 0 {
-            return refusal(Checking::BadLine(fault, n + 1));
+        if let Err(fault) = check_line(file, &starts[..n], line) {
+            return Err(Refused::BadLine(fault, n + 1));
         }
         starts[n] = at;
         n += 1;
         at = line.second.to + 1;
         claim = line.own;
     }
-    Checked {
-        answer: Checking::Accepted(n),
-        claim,
-    }
+    Ok(Checked {
+        lines: n,
+        claim: claim.of(file),
+    })
 }

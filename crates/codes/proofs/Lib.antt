@@ -1,5 +1,4 @@
--- That a C caller decodes what the operations answer, and how a refusal is coded.
-pub mod Refusals
+-- That a C caller decodes what the operations answer.
 pub mod Decoding
 pub mod InC
 pub mod Coded

@@ -1,7 +1,7 @@
 -- The one number that each C function answers (REQUIREMENTS, C interface).
 use Rattle.std.specs.Prelude.{ℕ, ◌+◌, ◌*◌, ◌%◌, Bool, true, false, List}
 use Rattle.calculus.specs.Run.{Outcome}
-use Rattle.reading.specs.Reply.{Reply}
+use Rattle.reading.specs.Reply.{Reply, number_in, place_in}
 use Rattle.stepping.specs.Stepping as stepping
 use Rattle.finishing.specs.Finishing as finishing
 use Rattle.counting.specs.Counting as counting
@@ -37,6 +37,10 @@ encode (Parts.narrow code value size) = code % 256 + value % 16777216 * 256 + si
 abbrev pub parts : {X : Type 0} → (X → Parts) → Reply X → Parts
 parts answer (Reply.refused number place) = Parts.wide number place
 parts answer (Reply.answered x) = answer x
+
+-- the number of a refusal alone
+abbrev pub refusal_number : {X : Type 0} → Reply X → ℕ
+refusal_number reply = encode (Parts.wide (number_in reply) (place_in reply))
 
 -- reading: 103 whole, with the size
 abbrev pub read_parts : ℕ → Parts

@@ -2,7 +2,9 @@
 #![tactic(auto)]
 
 ghost use Rattle.std.specs.Prelude.{◌≡◌};
-ghost use Rattle.codes.specs.Encoding.{Parts, encode};
+ghost use Rattle.codes.specs.Encoding.{Parts, encode, refusal_number};
+
+use reading::Refusal;
 
 // A code, and behind it a place, a line or a size of 56 bits.
 pub fn wide(code: u64, place: usize) -> u64
@@ -16,4 +18,11 @@ pub fn narrow(code: u64, value: usize, size: usize) -> u64
     ensures { result ≡ encode (Parts.narrow code value size) }
 {
     code % 256 + (value as u64) % 16777216 * 256 + (size as u64) % 4294967296 * 4294967296
+}
+
+// The number of a refusal: its own of the table of replies, and behind it its place or line.
+pub fn refused<R: Refusal>(refusal: &R) -> u64
+    ensures { result ≡ refusal_number (R.refusal refusal.now) }
+{
+    wide(refusal.number(), refusal.place())
 }

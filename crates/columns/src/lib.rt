@@ -6,6 +6,7 @@ ghost use Rattle.slices.specs.Numeral.{decimal};
 ghost use Rattle.slices.specs.Put.{put, behind};
 
 // Writes a field and the mark behind it to index `at` of `out` and answers the index behind them; changes nothing where they do not fit.
+#[tactic(auto, unfolding(slices::specs::Put::put, slices::specs::Put::behind))]
 pub fn append_field(field: &[u8], mark: u8, out: &mut [u8], at: usize) -> usize
     ensures { (out.new ≡ put at (field.now ++ (mark ∷ [])) out.old)
         × (result ≡ behind at (field.now ++ (mark ∷ [])) out.old) }
@@ -21,6 +22,7 @@ pub fn append_field(field: &[u8], mark: u8, out: &mut [u8], at: usize) -> usize
 }
 
 // Writes a number and the mark behind it, as `append_field` does.
+#[tactic(auto, unfolding(slices::specs::Put::put, slices::specs::Put::behind))]
 pub fn append_number(number: u64, mark: u8, out: &mut [u8], at: usize) -> usize
     ensures { (out.new ≡ put at (decimal number ++ (mark ∷ [])) out.old)
         × (result ≡ behind at (decimal number ++ (mark ∷ [])) out.old) }

@@ -15,10 +15,6 @@ use Rattle.contracting.specs.Contracting.{Contractible}
 -- ---- what is given
 
 module _ {cells : List ℕ} {top f a : ℕ} (given : Contractible cells top f a) where
-  -- the function's cell is in the arena
-  pub function-inside : f < length cells
-  function-inside = omega (arith, stands-inside given.redex.function-stands, given.room)
-
   -- the argument's cell is in the arena
   pub argument-inside : a < length cells
   argument-inside = omega (arith, stands-inside given.redex.argument-stands, given.room)

@@ -43,10 +43,7 @@ pub extern "C" fn controller_finish(
     ensures { (result, area.new, work.new)
         ≡ coded_finish (finishing_of area.old term_size work.old fuel) }
 {
-    let finishing = finishing::finish(area, term_size, work, fuel);
-    let admission = finishing.admission;
-    let run = finishing.run;
-    term_numbers::finish_number(admission, run)
+    term_numbers::run_number(&finishing::finish(area, term_size, work, fuel))
 }
 
 // The run of the term in the first `term_size` bytes of the area, and how often it used each rule.
@@ -61,10 +58,7 @@ pub extern "C" fn controller_finish_counted(
     ensures { (result, area.new, work.new, counts.new)
         ≡ coded_count (counting_of area.old term_size work.old fuel counts.old) }
 {
-    let counting = counting::finish_counted(area, term_size, work, fuel, counts);
-    let counted = counting.counted;
-    let run = counting.run;
-    term_numbers::counted_number(counted, run)
+    term_numbers::run_number(&counting::finish_counted(area, term_size, work, fuel, counts))
 }
 
 // Whether the terms in the first bytes of two areas have the same result.

@@ -1,21 +1,18 @@
 -- What the reader answers is `decimal_of` of the bytes that it was fed, cut to the cap. By induction on the bytes. Assumes nothing.
-use Prim.Native.Nat.{ℕ, ◌+◌, ◌*◌, ◌-◌, ◌<◌, ◌≤◌, min}
-use native.Mathlib.Numerals.{add-one}
+use Prim.Native.Nat.{ℕ, ◌+◌, ◌*◌, ◌-◌, ◌≤◌, min}
 use native.Mathlib.Omega.{arith}
 use mathlib.Core.Path.{◌≡◌, refl, sym, ◌∙◌, ap}
 use mathlib.Core.Bool.{Bool, true, false, ◌&&◌}
 use mathlib.Core.List.{List, [], ◌∷◌, ◌++◌}
-use mathlib.Core.Option.{Option, none, some}
+use mathlib.Core.Option.{Option as Maybe, none, some}
+use Rattle.std.specs.Prelude.{Option, Some, None}
 use lib.Dec.{eqb}
 use borrow.Author.Tests.{eqb-true, eqb-false}
-use lib.ListN.{length, get_or, drop, drop_of_length-le}
-use lib.Seq.{drop-cons}
+use lib.ListN.{length, drop, drop_of_length-le}
 use Rattle.slices.specs.Numeral.{digit0, is_digit, all_digits, value_from, some_if, decimal_of}
 use Rattle.slices.proofs.Decimal.{decimal-empty, decimal-zero, decimal_leading_zero, decimal-digits}
 use Rattle.decimals.specs.declared.Decimal.{Decimal}
 use Rattle.decimals.specs.declared.Decimal.TheVariants.{Empty, Digits, Other}
-use Rattle.decimals.specs.declared.Parsed.{Parsed}
-use Rattle.decimals.specs.declared.Parsed.TheVariants.{Number, NoNumber}
 use Rattle.decimals.specs.Parsed.{more, further_if, first_if, fed, fed_all, state_of, parsed_of, up_to}
 
 -- the state behind one byte more
@@ -35,7 +32,7 @@ other_stays cap (b ∷ bytes) = other_stays cap bytes
 digits_number :
     (cap n k : ℕ) (bytes : List ℕ) → k ≡ min n cap →
     parsed_of (fed_all cap (Digits k) bytes) ≡ up_to cap (some_if (all_digits bytes) (value_from n bytes))
-digits_number cap n k [] e = ap Number e
+digits_number cap n k [] e = ap Some e
 digits_number cap n k (b ∷ bytes) e =
     go (is_digit b) (digits_number cap (n * 10 + (b - digit0)) (more cap k (b - digit0)) bytes (omega arith))
   where
@@ -54,7 +51,7 @@ state-number cap [] = sym (ap (up_to cap) decimal-empty)
 state-number cap (b ∷ bytes) = go (eqb b digit0) refl
   where
     zero : (s : List ℕ) → parsed_of (fed_all cap (first_if true cap digit0) s) ≡ up_to cap (decimal_of (digit0 ∷ s))
-    zero [] = ap Number (omega arith) ∙ sym (ap (up_to cap) decimal-zero)
+    zero [] = ap Some (omega arith) ∙ sym (ap (up_to cap) decimal-zero)
     zero (c ∷ s) = ap parsed_of (other_stays cap s) ∙ sym (ap (up_to cap) (decimal_leading_zero c s))
 
     go : (t : Bool) → eqb b digit0 ≡ t → parsed_of (fed_all cap (first_if t cap b) bytes) ≡ up_to cap (decimal_of (b ∷ bytes))
@@ -69,17 +66,17 @@ pub record Numbered (cap : ℕ) (bytes : List ℕ) (kept : ℕ) : Type 0 where
 
 -- what an answer says of the bytes
 module _ (cap : ℕ) (bytes : List ℕ) where
-  pub numbered : {kept : ℕ} → up_to cap (decimal_of bytes) ≡ Number kept → Numbered cap bytes kept
+  pub numbered : {kept : ℕ} → up_to cap (decimal_of bytes) ≡ Some kept → Numbered cap bytes kept
   numbered {kept} e = go (decimal_of bytes) refl e
     where
-      go : (o : Option ℕ) → decimal_of bytes ≡ o → up_to cap o ≡ Number kept → Numbered cap bytes kept
+      go : (o : Maybe ℕ) → decimal_of bytes ≡ o → up_to cap o ≡ Some kept → Numbered cap bytes kept
       go none q e = let z : ◌≡◌ {A = ℕ} 0 1 = cc in absurd (omega arith)
       go (some n) q e = record { number = n; reads = q; capped = cc }
 
-  pub unnumbered : up_to cap (decimal_of bytes) ≡ NoNumber → decimal_of bytes ≡ none
+  pub unnumbered : up_to cap (decimal_of bytes) ≡ None → decimal_of bytes ≡ none
   unnumbered e = go (decimal_of bytes) e
     where
-      go : (o : Option ℕ) → up_to cap o ≡ NoNumber → o ≡ none
+      go : (o : Maybe ℕ) → up_to cap o ≡ None → o ≡ none
       go none e = refl
       go (some n) e = cc
 
@@ -88,10 +85,10 @@ module _ (cap : ℕ) (bytes : List ℕ) where
     answered : parsed_of d ≡ up_to cap (decimal_of bytes)
     answered = ap parsed_of st ∙ state-number cap bytes
 
-    pub state-numbered : {kept : ℕ} → parsed_of d ≡ Number kept → Numbered cap bytes kept
+    pub state-numbered : {kept : ℕ} → parsed_of d ≡ Some kept → Numbered cap bytes kept
     state-numbered e = numbered (sym answered ∙ e)
 
-    pub state-unnumbered : parsed_of d ≡ NoNumber → decimal_of bytes ≡ none
+    pub state-unnumbered : parsed_of d ≡ None → decimal_of bytes ≡ none
     state-unnumbered e = unnumbered (sym answered ∙ e)
 
     pub state-fed : (b : ℕ) → fed cap d b ≡ state_of cap (bytes ++ (b ∷ []))
@@ -99,18 +96,9 @@ module _ (cap : ℕ) (bytes : List ℕ) where
 
 -- ---- the loop over a slice
 
--- a turn feeds the byte at the index
-pub fed-turn :
-    (cap : ℕ) (s : List ℕ) (i : ℕ) (d d' : Decimal) → i < length s → d' ≡ fed cap d (get_or s i 0) →
-    fed_all cap d' (drop (i + 1) s) ≡ fed_all cap d (drop i s)
-fed-turn cap s i d d' h e =
-    ap (λ (k : Decimal). fed_all cap k (drop (i + 1) s)) e
-    ∙ ap (λ (n : ℕ). fed_all cap (fed cap d (get_or s i 0)) (drop n s)) (add-one i)
-    ∙ sym (ap (fed_all cap d) (drop-cons s i 0 h))
-
 -- behind the last byte the answer is the slice's
 pub fed-end :
-    (cap : ℕ) (s : List ℕ) (i : ℕ) (d : Decimal) (r : Parsed) → length s ≤ i → fed_all cap d (drop i s) ≡ state_of cap s → r ≡ parsed_of d →
+    (cap : ℕ) (s : List ℕ) (i : ℕ) (d : Decimal) (r : Option ℕ) → length s ≤ i → fed_all cap d (drop i s) ≡ state_of cap s → r ≡ parsed_of d →
     r ≡ up_to cap (decimal_of s)
 fed-end cap s i d r h inv e =
     e

@@ -1,13 +1,11 @@
 -- Decimal numbers fed a byte at a time: the state behind some bytes, and the number that they are, with numbers above a cap kept as the
 -- cap. `proofs/Parsing.antt` shows that this is `decimal_of` of the bytes.
 -- REQUIREMENTS, Programs; REQUIREMENTS, Derivation files.
-use Rattle.std.specs.Prelude.{ℕ, ◌+◌, ◌*◌, ◌-◌, min, Bool, true, false, List, [], ◌∷◌, eqb}
-use Rattle.std.proofs.Math.Option.{Option, none, some}
+use Rattle.std.specs.Prelude.{ℕ, ◌+◌, ◌*◌, ◌-◌, min, Bool, true, false, List, [], ◌∷◌, eqb, Option, Some, None}
+use Rattle.std.proofs.Math.Option.{Option as Maybe, none, some}
 use Rattle.slices.specs.Numeral.{digit0, is_digit}
 use Rattle.decimals.specs.declared.Decimal.{Decimal}
 use Rattle.decimals.specs.declared.Decimal.TheVariants.{Empty, Zero, Digits, Other}
-use Rattle.decimals.specs.declared.Parsed.{Parsed}
-use Rattle.decimals.specs.declared.Parsed.TheVariants.{Number, NoNumber}
 
 -- a number with one digit more behind it
 abbrev pub more : (cap n digit : ℕ) → ℕ
@@ -46,13 +44,13 @@ abbrev pub state_of : (cap : ℕ) → List ℕ → Decimal
 state_of cap bytes = fed_all cap Empty bytes
 
 -- the number that the bytes so far are
-abbrev pub parsed_of : Decimal → Parsed
-parsed_of Empty = NoNumber
-parsed_of Zero = Number 0
-parsed_of (Digits n) = Number n
-parsed_of Other = NoNumber
+abbrev pub parsed_of : Decimal → Option ℕ
+parsed_of Empty = None
+parsed_of Zero = Some 0
+parsed_of (Digits n) = Some n
+parsed_of Other = None
 
 -- a number cut to the cap
-abbrev pub up_to : (cap : ℕ) → Option ℕ → Parsed
-up_to cap none = NoNumber
-up_to cap (some n) = Number (min n cap)
+abbrev pub up_to : (cap : ℕ) → Maybe ℕ → Option ℕ
+up_to cap none = None
+up_to cap (some n) = Some (min n cap)

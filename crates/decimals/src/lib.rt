@@ -1,8 +1,8 @@
 // Decimal numbers without leading zeros, read a byte at a time or a slice at once. Numbers above a cap are kept as the cap.
 #![tactic(auto)]
 
-ghost use Rattle.std.specs.Prelude.{◌≡◌, ◌-◌};
-ghost use Rattle.slices.specs.Numeral.{is_digit, digit0, decimal_of};
+ghost use Rattle.std.specs.Prelude.{◌≡◌};
+ghost use Rattle.slices.specs.Numeral.{is_digit, decimal_of};
 ghost use Rattle.decimals.specs.Parsed.{fed, first, further, more, parsed_of, up_to};
 
 // What the bytes so far are.
@@ -14,15 +14,8 @@ pub enum Decimal {
     Zero,
     // A number from 1 upwards.
     Digits(u64),
-    // Bytes that no decimal number begins with.
+    // Bytes that no decimal number begins with. Kept: a state like the others, and no `Option` around them, as in `line_states`.
     Other,
-}
-
-// What bytes are, read as a decimal number.
-#[derive(Clone, Copy)]
-pub enum Parsed {
-    Number(u64),
-    NoNumber,
 }
 
 // One byte more.
@@ -37,27 +30,25 @@ pub fn feed(decimal: Decimal, b: u8, cap: u64) -> Decimal
     }
 }
 
-// The number that the bytes so far are.
-pub fn number(decimal: Decimal) -> Parsed
+// The number that the bytes so far are, where they are one.
+pub fn number(decimal: Decimal) -> Option<u64>
     ensures { result ≡ parsed_of decimal }
 {
     match decimal {
-        Decimal::Empty => Parsed::NoNumber,
-        Decimal::Zero => Parsed::Number(0),
-        Decimal::Digits(n) => Parsed::Number(n),
-        Decimal::Other => Parsed::NoNumber,
+        Decimal::Empty => None,
+        Decimal::Zero => Some(0),
+        Decimal::Digits(n) => Some(n),
+        Decimal::Other => None,
     }
 }
 
-// The number that a slice is, at most the cap.
-pub fn read_decimal(s: &[u8], cap: u64) -> Parsed
+// The number that a slice is, where it is one, at most the cap.
+pub fn read_decimal(s: &[u8], cap: u64) -> Option<u64>
     ensures { result ≡ up_to cap (decimal_of s.now) }
 {
     let mut decimal = Decimal::Empty;
-    let mut i = 0;
-    while i < s.len() {
-        decimal = feed(decimal, s[i], cap);
-        i += 1;
+    for b in s {
+        decimal = feed(decimal, *b, cap);
     }
     number(decimal)
 }
@@ -77,7 +68,7 @@ fn further_digit(n: u64, b: u8, cap: u64) -> Decimal
     ensures { result ≡ further cap n b }
 {
     if is_digit(b) {
-        return Decimal::Digits(one_more(n, value(b), cap));
+        return Decimal::Digits(one_more(n, u64::from(b - slices::DIGIT_0), cap));
     }
     Decimal::Other
 }
@@ -86,28 +77,12 @@ fn further_digit(n: u64, b: u8, cap: u64) -> Decimal
 fn is_digit(b: u8) -> bool
     ensures { result ≡ is_digit b }
 {
-    slices::DIGIT_0 <= b && b <= slices::DIGIT_9
-}
-
-// The number that a digit stands for, and 0 below the digits.
-fn value(b: u8) -> u64
-    ensures { result ≡ b - digit0 }
-{
-    if b < slices::DIGIT_0 {
-        return 0;
-    }
-    (b - slices::DIGIT_0) as u64
+    b.is_ascii_digit()
 }
 
 // A number with one digit more behind it, at most the cap.
 fn one_more(n: u64, digit: u64, cap: u64) -> u64
     ensures { result ≡ more cap n digit }
 {
-    if cap < digit {
-        return cap;
-    }
-    if (cap - digit) / 10 < n {
-        return cap;
-    }
-    n * 10 + digit
+    n.saturating_mul(10).saturating_add(digit).min(cap)
 }

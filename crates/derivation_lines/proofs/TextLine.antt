@@ -10,6 +10,7 @@ use mathlib.Core.Option.{Option, none, some}
 use borrow.Author.Tests.{le-leb, lt-leb, lt-ltb}
 use lib.Dec.{leb, ltb}
 use lib.ListN.{length, get_or, drop}
+use Rattle.std.specs.Prelude.{Ok, Err}
 use Rattle.calculus.specs.Limits.{line_limit}
 use Rattle.calculus.specs.Term.{Term}
 use Rattle.calculus.specs.Types.{Context, Ty}
@@ -26,20 +27,13 @@ use Rattle.derivation_files.specs.Checking.{Found, earlier_line, is_dash_premise
 use Rattle.derivation_files.specs.Checking.{premise_count, premises_of, found_if, found_instance, found_name, found_judgement, found_fields}
 use Rattle.fields.specs.Texts.{text_at}
 use Rattle.fields.specs.Fields.{judged_at, six_at, has_six, Texts, texts_at}
-use Rattle.premises.specs.Cited.{line_if, cited_of, is_dashed, is_line, cited_fit, start_or}
-use Rattle.rules.specs.Rules.{rule_of, is_known, count_of}
+use Rattle.premises.specs.Cited.{line_if, cited_of, is_dashed, is_line, cited_fit}
+use Rattle.rules.specs.Rules.{named_rule, rule_of, count_of}
 use Rattle.instances.specs.TextInstance.{instance_text}
 use Rattle.derivation_lines.specs.declared.Fault.{Fault}
-use Rattle.derivation_lines.specs.declared.Fault.TheVariants.{
-  NotSixFields,
-  Malformed,
-  UnknownRule,
-  BadPremise,
-  NoInstance,
-  Follows,
-}
+use Rattle.derivation_lines.specs.declared.Fault.TheVariants.{NotSixFields, Malformed, UnknownRule, BadPremise, NoInstance}
 use Rattle.derivation_lines.specs.Number.{number_of}
-use Rattle.derivation_lines.specs.TextLine.{instance_at, unless, six_fault, rule_in, first_in, second_in, line_fault}
+use Rattle.derivation_lines.specs.TextLine.{Outcome, named_texts, instance_at, unless, on_rule, rule_fault, six_fault, rule_in, first_in, second_in, line_fault}
 use Rattle.fields.specs.declared.SixFields.{SixFields}
 use Rattle.premises.specs.declared.Cited.{Cited}
 use Rattle.premises.specs.declared.Cited.TheVariants.{Line, Nothing}
@@ -51,11 +45,11 @@ abbrev pub Table : (file starts : List ℕ) → List Judgement → Type 0
 Table file starts earlier =
     (m : ℕ) (i : Judgement) → earlier_line earlier (suc m) ≡ some i → texts_at (judged_at file (get_or starts m 0)) file ≡ texts_of i
 
--- `Verdict own fault found`: the fault has the number that is found of the line, and where there is none the line's texts are those of the
--- judgement found
-pub data Verdict (own : Texts) : Fault → Found → Type 0 where
-  good : (j : Judgement) → own ≡ texts_of j → Verdict own Follows (Found.good j)
-  bad : (fault : Fault) → (number_of fault ≡ 0 → ⊥) → Verdict own fault (Found.bad (number_of fault))
+-- `Verdict own outcome found`: the fault has the number that is found of the line, and where there is none the line's texts are those of
+-- the judgement found
+pub data Verdict (own : Texts) : Outcome → Found → Type 0 where
+  good : (j : Judgement) → own ≡ texts_of j → Verdict own (Ok tt) (Found.good j)
+  bad : (fault : Fault) → Verdict own (Err fault) (Found.bad (number_of fault))
 
 -- ---- what a premise field names
 
@@ -85,88 +79,87 @@ dashed starts n (some (Premise.line m)) = go (ltb 0 m && leb m n)
     go false = refl
 
 -- what a field names, by the code and by the definition: no line, or an earlier line whose texts are those of its judgement
-data Cites (file : List ℕ) (other : ℕ) : Cited → Option Judgement → Type 0 where
-  nothing : {cited : Cited} → is_line cited ≡ false → Cites file other cited none
+data Cites (file : List ℕ) : Cited → Option Judgement → Type 0 where
+  nothing : {cited : Cited} → is_line cited ≡ false → Cites file cited none
   line :
-      {cited : Cited} (i : Judgement) → is_line cited ≡ true → texts_at (judged_at file (start_or other cited)) file ≡ texts_of i →
-      Cites file other cited (some i)
+      {cited : Cited} (i : Judgement) → is_line cited ≡ true → named_texts file cited ≡ texts_of i →
+      Cites file cited (some i)
 
 module _
     (file starts : List ℕ)
     (n : ℕ)
     (earlier : List Judgement)
     (count : length earlier ≡ n)
-    (table : Table file starts earlier)
-    (other : ℕ) where
+    (table : Table file starts earlier) where
   cites-line :
       (m : ℕ) → Dec (suc m ≤ n) →
-      Cites file other (line_if (ltb 0 (suc m) && leb (suc m) n) (get_or starts (suc m - 1) 0)) (earlier_line earlier (suc m))
+      Cites file (line_if (ltb 0 (suc m) && leb (suc m) n) (get_or starts (suc m - 1) 0)) (earlier_line earlier (suc m))
   cites-line m (yes h) =
       let (i, e) = earlier-some earlier m (omega arith) in
       let index : suc m - 1 ≡ m = omega arith in
       let named : line_if (ltb 0 (suc m) && leb (suc m) n) (get_or starts (suc m - 1) 0) ≡ Line (get_or starts m 0) =
       ap₂ (λ (t : Bool) (k : ℕ). line_if t (get_or starts k 0)) (ap₂ ◌&&◌ (lt-ltb 0 (suc m) (omega arith)) (le-leb (suc m) n h)) index in
-      subst₂ (λ (c : Cited) (o : Option Judgement). Cites file other c o) (sym named) (sym e) (Cites.line i refl (table m i e))
+      subst₂ (λ (c : Cited) (o : Option Judgement). Cites file c o) (sym named) (sym e) (Cites.line i refl (table m i e))
   cites-line m (no h) =
       let named : line_if (ltb 0 (suc m) && leb (suc m) n) (get_or starts (suc m - 1) 0) ≡ Nothing =
       ap (λ (t : Bool). line_if t (get_or starts (suc m - 1) 0))
       (ap₂ ◌&&◌ (lt-ltb 0 (suc m) (omega arith)) (lt-leb (suc m) n (omega arith))) in
-      subst₂ (λ (c : Cited) (o : Option Judgement). Cites file other c o) (sym named) (sym (earlier-none earlier m (omega arith)))
+      subst₂ (λ (c : Cited) (o : Option Judgement). Cites file c o) (sym named) (sym (earlier-none earlier m (omega arith)))
       (Cites.nothing refl)
 
-  cites : (o : Option Premise) → Cites file other (cited_of starts n o) (named_premise earlier o)
+  cites : (o : Option Premise) → Cites file (cited_of starts n o) (named_premise earlier o)
   cites none = Cites.nothing refl
   cites (some Premise.dash) = Cites.nothing refl
   cites (some (Premise.line zero)) =
-      subst (λ (o : Option Judgement). Cites file other Nothing o) (sym (earlier-zero earlier)) (Cites.nothing refl)
+      subst (λ (o : Option Judgement). Cites file Nothing o) (sym (earlier-zero earlier)) (Cites.nothing refl)
   cites (some (Premise.line (suc m))) = cites-line m (dec_le (suc m) n)
 
 -- ---- the tests of a line, from the last to the first
 
 module _ (own : Texts) (name : Name) (j : Judgement) (same : own ≡ texts_of j) where
-  judged : (b : Bool) → Verdict own (unless b NoInstance Follows) (found_if b j)
+  judged : (b : Bool) → Verdict own (unless b NoInstance (Ok tt)) (found_if b j)
   judged true = Verdict.good j same
-  judged false = Verdict.bad NoInstance (λ z. omega arith)
+  judged false = Verdict.bad NoInstance
 
   -- where the premises fit, the instance decides
   fit :
       (fits inst test : Bool) → fits ≡ true → inst ≡ test →
-      Verdict own (unless fits BadPremise (unless inst NoInstance Follows)) (found_if test j)
+      Verdict own (unless fits BadPremise (unless inst NoInstance (Ok tt))) (found_if test j)
   fit fits inst test p q =
-      subst₂ (λ (f i : Bool). Verdict own (unless f BadPremise (unless i NoInstance Follows)) (found_if test j)) (sym p) (sym q)
+      subst₂ (λ (f i : Bool). Verdict own (unless f BadPremise (unless i NoInstance (Ok tt))) (found_if test j)) (sym p) (sym q)
       (judged test)
 
   unfit :
-      (fits inst : Bool) → fits ≡ false → Verdict own (unless fits BadPremise (unless inst NoInstance Follows)) (Found.bad 17)
+      (fits inst : Bool) → fits ≡ false → Verdict own (unless fits BadPremise (unless inst NoInstance (Ok tt))) (Found.bad 17)
   unfit fits inst p =
-      subst (λ (f : Bool). Verdict own (unless f BadPremise (unless inst NoInstance Follows)) (Found.bad 17)) (sym p)
-      (Verdict.bad BadPremise (λ z. omega arith))
+      subst (λ (f : Bool). Verdict own (unless f BadPremise (unless inst NoInstance (Ok tt))) (Found.bad 17)) (sym p)
+      (Verdict.bad BadPremise)
 
   by-none :
       (fits inst first second : Bool) → fits ≡ (first && second) → inst ≡ is_instance name Premises.none j →
-      Verdict own (unless fits BadPremise (unless inst NoInstance Follows)) (found_instance name j (premises_none first second))
+      Verdict own (unless fits BadPremise (unless inst NoInstance (Ok tt))) (found_instance name j (premises_none first second))
   by-none fits inst true true p q = fit fits inst (is_instance name Premises.none j) p q
   by-none fits inst true false p q = unfit fits inst p
   by-none fits inst false second p q = unfit fits inst p
 
-  module _ (file : List ℕ) (other : ℕ) where
+  module _ (file : List ℕ) where
     by_one :
-        (fits inst : Bool) {cited : Cited} {o : Option Judgement} (second : Bool) → Cites file other cited o →
+        (fits inst : Bool) {cited : Cited} {o : Option Judgement} (second : Bool) → Cites file cited o →
         fits ≡ (is_line cited && second) →
-        ((i : Judgement) → texts_at (judged_at file (start_or other cited)) file ≡ texts_of i → inst ≡ is_instance name (Premises.one i) j) →
-        Verdict own (unless fits BadPremise (unless inst NoInstance Follows)) (found_instance name j (premises_one o second))
+        ((i : Judgement) → named_texts file cited ≡ texts_of i → inst ≡ is_instance name (Premises.one i) j) →
+        Verdict own (unless fits BadPremise (unless inst NoInstance (Ok tt))) (found_instance name j (premises_one o second))
     by_one fits inst second (Cites.nothing e) p q = unfit fits inst (p ∙ ap (λ (t : Bool). t && second) e)
     by_one fits inst true (Cites.line i e t) p q =
         fit fits inst (is_instance name (Premises.one i) j) (p ∙ ap (λ (t : Bool). t && true) e) (q i t)
     by_one fits inst false (Cites.line i e t) p q = unfit fits inst (p ∙ ap (λ (t : Bool). t && false) e)
 
     by_two :
-        (fits inst : Bool) {cited cited' : Cited} {o o' : Option Judgement} → Cites file other cited o → Cites file other cited' o' →
+        (fits inst : Bool) {cited cited' : Cited} {o o' : Option Judgement} → Cites file cited o → Cites file cited' o' →
         fits ≡ (is_line cited && is_line cited') →
-        ((i k : Judgement) → texts_at (judged_at file (start_or other cited)) file ≡ texts_of i →
-        texts_at (judged_at file (start_or other cited')) file ≡ texts_of k →
+        ((i k : Judgement) → named_texts file cited ≡ texts_of i →
+        named_texts file cited' ≡ texts_of k →
         inst ≡ is_instance name (Premises.two i k) j) →
-        Verdict own (unless fits BadPremise (unless inst NoInstance Follows)) (found_instance name j (premises_two o o'))
+        Verdict own (unless fits BadPremise (unless inst NoInstance (Ok tt))) (found_instance name j (premises_two o o'))
     by_two fits inst {cited' = cited'} (Cites.nothing e) second p q = unfit fits inst (p ∙ ap (λ (t : Bool). t && is_line cited') e)
     by_two fits inst (Cites.line i e t) (Cites.nothing d) p q = unfit fits inst (p ∙ ap₂ ◌&&◌ e d)
     by_two fits inst (Cites.line i e t) (Cites.line k d u) p q =
@@ -192,16 +185,16 @@ module _
   two = second_in file starts n six
 
   abbrev oneTexts : Texts
-  oneTexts = texts_at (judged_at file (start_or (length file) one)) file
+  oneTexts = named_texts file one
 
   abbrev twoTexts : Texts
-  twoTexts = texts_at (judged_at file (start_or (length file) two)) file
+  twoTexts = named_texts file two
 
-  cites-one : Cites file (length file) one (named_premise earlier (premise_of (text_at six.first file)))
-  cites-one = cites file starts (min n line_limit) earlier count table (length file) (premise_of (text_at six.first file))
+  cites-one : Cites file one (named_premise earlier (premise_of (text_at six.first file)))
+  cites-one = cites file starts (min n line_limit) earlier count table (premise_of (text_at six.first file))
 
-  cites-two : Cites file (length file) two (named_premise earlier (premise_of (text_at six.second file)))
-  cites-two = cites file starts (min n line_limit) earlier count table (length file) (premise_of (text_at six.second file))
+  cites-two : Cites file two (named_premise earlier (premise_of (text_at six.second file)))
+  cites-two = cites file starts (min n line_limit) earlier count table (premise_of (text_at six.second file))
 
   dashes :
       (is_dashed one && is_dashed two)
@@ -214,59 +207,59 @@ module _
   abbrev ByRule : Name → Judgement → Type 0
   ByRule name j =
       Verdict mine
-      (unless (cited_fit (count_of (rule_of (some name))) one two) BadPremise
-      (unless (instance_at file (rule_of (some name)) six.own one two) NoInstance Follows))
+      (unless (cited_fit (count_of (named_rule name)) one two) BadPremise
+      (unless (instance_at file (named_rule name) mine one two) NoInstance (Ok tt)))
       (found_instance name j
       (premises_of (premise_count name) earlier (premise_of (text_at six.first file)) (premise_of (text_at six.second file))))
 
   module _ (j : Judgement) (same : mine ≡ texts_of j) where
     none_named :
-        (name : Name) → premise_count name ≡ 0 → instance_at file (rule_of (some name)) six.own one two ≡ is_instance name Premises.none j
+        (name : Name) → premise_count name ≡ 0 → instance_at file (named_rule name) mine one two ≡ is_instance name Premises.none j
     none_named name e =
-        ap (λ (x : Texts). instance_text (rule_of (some name)) x oneTexts twoTexts) same ∙ instance_none name j oneTexts twoTexts e
+        ap (λ (x : Texts). instance_text (named_rule name) x oneTexts twoTexts) same ∙ instance_none name j oneTexts twoTexts e
 
     one-named :
         (name : Name) → premise_count name ≡ 1 → (i : Judgement) → oneTexts ≡ texts_of i →
-        instance_at file (rule_of (some name)) six.own one two ≡ is_instance name (Premises.one i) j
-    one-named name e i p = ap₂ (λ (x y : Texts). instance_text (rule_of (some name)) x y twoTexts) same p ∙ instance_one name j i twoTexts e
+        instance_at file (named_rule name) mine one two ≡ is_instance name (Premises.one i) j
+    one-named name e i p = ap₂ (λ (x y : Texts). instance_text (named_rule name) x y twoTexts) same p ∙ instance_one name j i twoTexts e
 
     two-named :
         (name : Name) → premise_count name ≡ 2 → (i k : Judgement) → oneTexts ≡ texts_of i → twoTexts ≡ texts_of k →
-        instance_at file (rule_of (some name)) six.own one two ≡ is_instance name (Premises.two i k) j
+        instance_at file (named_rule name) mine one two ≡ is_instance name (Premises.two i k) j
     two-named name e i k p q =
-        ap (λ (x : Texts). instance_text (rule_of (some name)) x oneTexts twoTexts) same ∙
-        ap₂ (λ (y z : Texts). instance_text (rule_of (some name)) (texts_of j) y z) p q ∙ instance_two name j i k e
+        ap (λ (x : Texts). instance_text (named_rule name) x oneTexts twoTexts) same ∙
+        ap₂ (λ (y z : Texts). instance_text (named_rule name) (texts_of j) y z) p q ∙ instance_two name j i k e
 
     alone :
-        (name : Name) → instance_at file (rule_of (some name)) six.own one two ≡ is_instance name Premises.none j →
+        (name : Name) → instance_at file (named_rule name) mine one two ≡ is_instance name Premises.none j →
         Verdict mine
         (unless (is_dashed one && is_dashed two) BadPremise
-        (unless (instance_at file (rule_of (some name)) six.own one two) NoInstance Follows))
+        (unless (instance_at file (named_rule name) mine one two) NoInstance (Ok tt)))
         (found_instance name j
         (premises_none (is_dash_premise (premise_of (text_at six.first file))) (is_dash_premise (premise_of (text_at six.second file)))))
     alone name named =
-        by-none mine name j same (is_dashed one && is_dashed two) (instance_at file (rule_of (some name)) six.own one two)
+        by-none mine name j same (is_dashed one && is_dashed two) (instance_at file (named_rule name) mine one two)
         (is_dash_premise (premise_of (text_at six.first file))) (is_dash_premise (premise_of (text_at six.second file))) dashes named
 
     both :
         (name : Name) →
         ((i k : Judgement) → oneTexts ≡ texts_of i → twoTexts ≡ texts_of k →
-        instance_at file (rule_of (some name)) six.own one two ≡ is_instance name (Premises.two i k) j) →
+        instance_at file (named_rule name) mine one two ≡ is_instance name (Premises.two i k) j) →
         Verdict mine
         (unless (is_line one && is_line two) BadPremise
-        (unless (instance_at file (rule_of (some name)) six.own one two) NoInstance Follows))
+        (unless (instance_at file (named_rule name) mine one two) NoInstance (Ok tt)))
         (found_instance name j
         (premises_two (named_premise earlier (premise_of (text_at six.first file)))
         (named_premise earlier (premise_of (text_at six.second file)))))
     both name named =
-        by_two mine name j same file (length file) (is_line one && is_line two)
-        (instance_at file (rule_of (some name)) six.own one two) cites-one cites-two refl named
+        by_two mine name j same file (is_line one && is_line two)
+        (instance_at file (named_rule name) mine one two) cites-one cites-two refl named
 
     by-rule : (name : Name) → ByRule name j
     by-rule Name.J = alone Name.J (none_named Name.J refl)
     by-rule Name.R =
-        by_one mine Name.R j same file (length file) (is_line one && is_dashed two)
-        (instance_at file (rule_of (some Name.R)) six.own one two)
+        by_one mine Name.R j same file (is_line one && is_dashed two)
+        (instance_at file (named_rule Name.R) mine one two)
         (is_dash_premise (premise_of (text_at six.second file))) cites-one
         (ap (λ (t : Bool). is_line one && t) (dashed starts (min n line_limit) (premise_of (text_at six.second file))))
         (one-named Name.R refl)
@@ -282,11 +275,9 @@ module _
   by_name :
       (j : Judgement) → mine ≡ texts_of j → (o : Option Name) →
       Verdict mine
-      (unless (is_known (rule_of o)) UnknownRule
-      (unless (cited_fit (count_of (rule_of o)) one two) BadPremise
-      (unless (instance_at file (rule_of o) six.own one two) NoInstance Follows)))
+      (on_rule (rule_of o) (λ rule. rule_fault file rule mine one two))
       (found_name earlier j o (text_at six.first file) (text_at six.second file))
-  by_name j same none = Verdict.bad UnknownRule (λ z. omega arith)
+  by_name j same none = Verdict.bad UnknownRule
   by_name j same (some Name.J) = by-rule j same Name.J
   by_name j same (some Name.R) = by-rule j same Name.R
   by_name j same (some Name.H) = by-rule j same Name.H
@@ -303,13 +294,11 @@ module _
       type_of mine.type ≡ W →
       Verdict mine
       (unless (is_some G && is_some t && is_some W) Malformed
-      (unless (is_known (rule_in file six)) UnknownRule
-      (unless (cited_fit (count_of (rule_in file six)) one two) BadPremise
-      (unless (instance_at file (rule_in file six) six.own one two) NoInstance Follows))))
+      (on_rule (rule_in file six) (λ rule. rule_fault file rule mine one two)))
       (found_judgement earlier (judgement_if G t W) (text_at six.rule file) (text_at six.first file) (text_at six.second file))
-  by-fields none t W p q r = Verdict.bad Malformed (λ z. omega arith)
-  by-fields (some G) none W p q r = Verdict.bad Malformed (λ z. omega arith)
-  by-fields (some G) (some t) none p q r = Verdict.bad Malformed (λ z. omega arith)
+  by-fields none t W p q r = Verdict.bad Malformed
+  by-fields (some G) none W p q r = Verdict.bad Malformed
+  by-fields (some G) (some t) none p q r = Verdict.bad Malformed
   by-fields (some G) (some t) (some W) p q r = by_name (Judgement.judge G t W) texts (name_of (text_at six.rule file))
     where
       texts : mine ≡ texts_of (Judgement.judge G t W)
@@ -345,7 +334,7 @@ line-verdict file starts n earlier same few table at = go (has_six file (six_at 
     count : length earlier ≡ min n line_limit
     count = same ∙ sym (within n few)
 
-    onwards : Fault
+    onwards : Outcome
     onwards =
         six_fault file (six_at file at) (rule_in file (six_at file at)) (first_in file starts n (six_at file at))
         (second_in file starts n (six_at file at))
@@ -367,18 +356,17 @@ line-verdict file starts n earlier same few table at = go (has_six file (six_at 
         subst₂
         (λ (t : Bool) (found : Found). Verdict (texts_at (judged_at file at) file) (unless t NotSixFields onwards) found)
         (sym e) (sym (not_six earlier (fields (first_line (drop at file))) (six-missed file at e)))
-        (Verdict.bad NotSixFields (λ z. omega arith))
+        (Verdict.bad NotSixFields)
 
 -- a line that follows has six fields
 pub follows_six :
-    (file starts : List ℕ) (n : ℕ) (six : SixFields) → number_of (line_fault file starts n six) ≡ 0 → has_six file six ≡ true
+    (file starts : List ℕ) (n : ℕ) (six : SixFields) → Ok tt ≡ line_fault file starts n six → has_six file six ≡ true
 unfolding line_fault
 follows_six file starts n six = go (has_six file six)
   where
     go :
         (t : Bool) →
-        number_of
-        (unless t NotSixFields (six_fault file six (rule_in file six) (first_in file starts n six) (second_in file starts n six))) ≡ 0 →
+        Ok tt ≡ unless t NotSixFields (six_fault file six (rule_in file six) (first_in file starts n six) (second_in file starts n six)) →
         t ≡ true
     go true e = refl
-    go false e = absurd (omega arith)
+    go false e = cc

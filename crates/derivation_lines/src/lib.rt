@@ -1,18 +1,18 @@
 // One line of a derivation file: what it is refused for, or that it follows.
 #![tactic(auto)]
 
-ghost use Rattle.std.specs.Prelude.{◌≡◌};
+ghost use Rattle.std.specs.Prelude.{◌≡◌, length};
 ghost use Rattle.calculus.specs.Parse.{term_of};
 ghost use Rattle.types.specs.Tests.{is_some};
-ghost use Rattle.fields.specs.Fields.{texts_at};
-ghost use Rattle.derivation_lines.specs.Number.{number_of};
-ghost use Rattle.derivation_lines.specs.TextLine.{is_well_formed, instance_at, rule_fault, line_fault};
+ghost use Rattle.fields.specs.Fields.{texts_now};
+ghost use Rattle.derivation_lines.specs.Number.{number_of, refusal_of};
+ghost use Rattle.derivation_lines.specs.TextLine.{is_well_formed, named_texts, instance_at, rule_fault, line_fault};
 
-use fields::texts::bytes_of;
-use fields::{Judged, SixFields, has_six, judged_at};
+use fields::{SixFields, Texts, has_six, judged_at};
 use instances::is_instance;
-use premises::{Cited, cite, premises_fit, start_or};
-use rules::{Rule, is_known, premise_count, rule_of};
+use premises::{Cited, cite, premises_fit};
+use reading::Refusal;
+use rules::{Rule, premise_count, rule_of};
 
 // What is wrong with a line; specs/Number.antt gives the number of each case.
 #[derive(Clone, Copy)]
@@ -27,77 +27,88 @@ pub enum Fault {
     BadPremise,
     // It is not an instance of its rule.
     NoInstance,
-    // Nothing: the line follows.
-    Follows,
 }
 
-// The number of a fault, 0 where the line follows.
-pub fn number(fault: Fault) -> u64
-    ensures { result ≡ number_of fault }
-{
-    match fault {
-        Fault::NotSixFields => 14,
-        Fault::Malformed => 15,
-        Fault::UnknownRule => 16,
-        Fault::BadPremise => 17,
-        Fault::NoInstance => 18,
-        Fault::Follows => 0,
+impl Refusal for Fault {
+    ghost refusal = { refusal_of };
+
+    fn number(&self) -> u64 {
+        match *self {
+            Fault::NotSixFields => 14,
+            Fault::Malformed => 15,
+            Fault::UnknownRule => 16,
+            Fault::BadPremise => 17,
+            Fault::NoInstance => 18,
+        }
+    }
+
+    fn place(&self) -> usize {
+        0
     }
 }
 
-// What is wrong with a line of those fields, where `n` lines went before, which begin at `starts`.
-pub fn check_line(file: &[u8], starts: &[usize], n: usize, line: SixFields) -> Fault
-    ensures { result ≡ line_fault file.now starts.now n line }
+// What is wrong with a line of those fields, where the lines that went before begin at `starts`.
+#[tactic(auto, unfolding(crate::specs::TextLine::line_fault))]
+pub fn check_line(file: &[u8], starts: &[usize], line: SixFields) -> Result<(), Fault>
+    ensures { result ≡ line_fault file.now starts.now (length starts.now) line }
 {
     if !has_six(file, line) {
-        return Fault::NotSixFields;
+        return Err(Fault::NotSixFields);
     }
-    if !well_formed(file, line.own) {
-        return Fault::Malformed;
+    let own = line.own.of(file);
+    if !is_well_formed(own) {
+        return Err(Fault::Malformed);
     }
-    let rule = rule_of(file, line.rule);
-    if !is_known(rule) {
-        return Fault::UnknownRule;
-    }
-    let first = cite(file, line.first, starts, n);
-    let second = cite(file, line.second, starts, n);
-    by_rule(file, rule, line.own, first, second)
+    let rule = rule_of(line.rule.of(file)).ok_or(Fault::UnknownRule)?;
+    let first = cite(line.first.of(file), starts);
+    let second = cite(line.second.of(file), starts);
+    by_rule(file, rule, own, first, second)
 }
 
 // What is wrong with a well-formed line of that rule, whose premise fields name those.
-fn by_rule(file: &[u8], rule: Rule, own: Judged, first: Cited, second: Cited) -> Fault
-    ensures { result ≡ rule_fault file.now rule own first second }
+fn by_rule(file: &[u8], rule: Rule, own: Texts, first: Cited, second: Cited) -> Result<(), Fault>
+    ensures { result ≡ rule_fault file.now rule (texts_now own.entry) first second }
 {
     if !premises_fit(premise_count(rule), first, second) {
-        return Fault::BadPremise;
+        return Err(Fault::BadPremise);
     }
     if !follows(file, rule, own, first, second) {
-        return Fault::NoInstance;
+        return Err(Fault::NoInstance);
     }
-    Fault::Follows
+    Ok(())
 }
 
 // Whether the context, the term and the type are well formed.
-fn well_formed(file: &[u8], own: Judged) -> bool
-    ensures { result ≡ is_well_formed (texts_at own file.now) }
+fn is_well_formed(own: Texts) -> bool
+    ensures { result ≡ is_well_formed (texts_now own.entry) }
 {
-    types::is_context(bytes_of(file, own.context))
-        && is_term(bytes_of(file, own.term))
-        && types::is_type(bytes_of(file, own.ty))
+    types::is_context(own.context) && is_term(own.term) && types::is_type(own.ty)
 }
 
 // Whether the bytes are the text of a term.
 fn is_term(s: &[u8]) -> bool
     ensures { result ≡ is_some (term_of s.now) }
 {
-    reading::number(reading::read(s)) == 0
+    reading::read(s).is_ok()
 }
 
 // Whether the line is an instance of the rule, with the lines that are named for premises.
-fn follows(file: &[u8], rule: Rule, own: Judged, first: Cited, second: Cited) -> bool
-    ensures { result ≡ instance_at file.now rule own first second }
+fn follows(file: &[u8], rule: Rule, own: Texts, first: Cited, second: Cited) -> bool
+    ensures { result ≡ instance_at file.now rule (texts_now own.entry) first second }
 {
-    let i = judged_at(file, start_or(first, file.len()));
-    let k = judged_at(file, start_or(second, file.len()));
-    is_instance(file, rule, own, i, k)
+    is_instance(rule, own, named(file, first), named(file, second))
+}
+
+// The texts of the line that is named, and empty ones where none is.
+fn named(file: &[u8], cited: Cited) -> Texts
+    ensures { texts_now result ≡ named_texts file.now cited }
+{
+    match cited {
+        Cited::Line(start) => judged_at(file, start).of(file),
+        _ => Texts {
+            context: &[],
+            term: &[],
+            ty: &[],
+        },
+    }
 }

@@ -10,6 +10,7 @@ use lib.Seq.{take-suc-set, append_snoc}
 use Rattle.calculus.specs.Letter.{Letter, byte}
 use Rattle.calculus.specs.Term.{Term, text}
 use Rattle.contexts.specs.Frames.{Frame, plugged, texts}
+use Rattle.std.specs.Prelude.{Option, Some}
 use Rattle.reading.specs.Arity.{arity_of}
 use Rattle.cells.specs.Cell.{letter_in, first_in, second_in, packed, Kept}
 use Rattle.cells.specs.Stands.{Stands}
@@ -99,10 +100,10 @@ module _ {cells : List ℕ} {top cur list : ℕ} {area : List ℕ} {written : �
         (stage-on u s.pending (subst (λ (k : ℕ). Stands cells top k u) (sym first) stands) behind
         (spelt ∙ ap (λ (word : List ℕ). take written area ++ (word ++ texts s.pending)) parted)))
 
-    module _ (n : ℕ) (arity : n ≡ arity_of b) where
+    module _ (n : Option ℕ) (arity : n ≡ arity_of b) where
       -- a letter that takes two terms: the first is next, and the second is the first of the terms behind
       pub emitted-two :
-          (x y : ℕ) (cells' : List ℕ) → n ≡ 2 → x ≡ first_in (get_or cells cur 0) → y ≡ second_in (get_or cells cur 0) →
+          (x y : ℕ) (cells' : List ℕ) → n ≡ Some 2 → x ≡ first_in (get_or cells cur 0) → y ≡ second_in (get_or cells cur 0) →
           cells' ≡ set cells top (packed pending_kind y list 0) → (t : Term) → Stage cells top cur list (take written area) t →
           Emitted cells top cur area written t cells' (top + 1) x top (set area written b) (written + 1) true
       emitted-two x y cells' e first second made t s =
@@ -120,7 +121,7 @@ module _ {cells : List ℕ} {top cur list : ℕ} {area : List ℕ} {written : �
           ∙ ap (λ (word : List ℕ). take written area ++ (word ++ texts s.pending)) parted
           ∙ ap (λ (word : List ℕ). take written area ++ (letter ∷ word)) (append_assoc (text u) (text v) (texts s.pending))))))
 
-      module _ (no_R : ¬ (b ≡ byte Letter.R)) (not-two : ¬ (n ≡ 2)) where
+      module _ (no_R : ¬ (b ≡ byte Letter.R)) (not-two : ¬ (n ≡ Some 2)) where
         -- the letter stands alone in front of the terms behind
         spelt-alone :
             {t : Term} (s : Stage cells top cur list (take written area) t) → text t ≡ take written area ++ (letter ∷ texts s.pending)
@@ -156,7 +157,7 @@ module _ {cells : List ℕ} {top cur list : ℕ} {area : List ℕ} {written : �
 
   -- where a term is added behind
   pub bare-two :
-      (b : ℕ) → b ≡ letter → (n : ℕ) → n ≡ arity_of b → (y : ℕ) (cells' : List ℕ) → n ≡ 2 → y ≡ second_in (get_or cells cur 0) →
+      (b : ℕ) → b ≡ letter → (n : Option ℕ) → n ≡ arity_of b → (y : ℕ) (cells' : List ℕ) → n ≡ Some 2 → y ≡ second_in (get_or cells cur 0) →
       cells' ≡ set cells top (packed pending_kind y list 0) → letter_in (get_or cells' top 0) ≡ pending_kind
   bare-two b read n arity y cells' e second made =
       let s = given.stage in

@@ -14,6 +14,8 @@ use cells::{ARGUMENT, PENDING, first_in, letter_in, link, node, second_in};
 
 // Where the machine is: the first free cell, the part in focus, the list of what stands around it and behind it, how many letters stand in
 // the area already, and whether a part is left at all.
+// Kept: `left` is a field and no Option around the place, which would take `written` away with it where no part is left; the contracts
+// of `emit` and of a turn speak of it there too.
 #[derive(Clone, Copy)]
 pub struct Place {
     pub top: usize,
@@ -49,7 +51,7 @@ pub fn emit(cells: &mut [u64], area: &mut [u8], place: Place) -> Place
             left: true,
         };
     }
-    if reading::arity(letter) == 2 {
+    if reading::arity(letter) == Some(2) {
         let first = first_in(cell);
         let second = second_in(cell);
         link(cells, top, PENDING, second, list);

@@ -4,15 +4,20 @@
 -- REQUIREMENTS, Derivation files.
 use Rattle.std.specs.Prelude.{ℕ, suc, ◌+◌, Bool, ◌&&◌, ◌||◌, not, cond, List, [], ◌∷◌, ltb, eqb, length, get_or, drop}
 use Rattle.slices.specs.Split.{tab, line_feed}
-use Rattle.fields.specs.declared.texts.Span.{Span}
+use Rattle.slices.specs.declared.Span.{Span}
 use Rattle.fields.specs.declared.Judged.{Judged}
 use Rattle.fields.specs.declared.SixFields.{SixFields}
+use Rattle.fields.specs.declared.Texts as Lent
 use Rattle.fields.specs.Texts.{text_at}
+
+-- a tab or a line feed
+abbrev pub is_stop : ℕ → Bool
+is_stop b = eqb b tab || eqb b line_feed
 
 -- how many bytes stand before the first tab or line feed
 abbrev pub stop_in : List ℕ → ℕ
 stop_in [] = 0
-stop_in (b ∷ bytes) = cond (eqb b tab || eqb b line_feed) 0 (suc (stop_in bytes))
+stop_in (b ∷ bytes) = cond (is_stop b) 0 (suc (stop_in bytes))
 
 -- the index of the first tab or line feed from an index on, and the end where there is none
 abbrev pub stop_at : List ℕ → ℕ → ℕ
@@ -58,3 +63,7 @@ pub record Texts : Type 0 where
 
 abbrev pub texts_at : Judged → List ℕ → Texts
 texts_at judged file = record { context = text_at judged.context file; term = text_at judged.term file; type = text_at judged.ty file }
+
+-- the texts that a judgement's slices hold
+abbrev pub texts_now : Lent.Texts → Texts
+texts_now lent = record { context = lent.context.now; term = lent.term.now; type = lent.ty.now }

@@ -2,7 +2,7 @@
 -- REQUIREMENTS, Derivation files.
 use Rattle.std.specs.Prelude.{ℕ, List}
 use Rattle.slices.specs.Part.{part}
-use Rattle.fields.specs.declared.texts.Span.{Span}
+use Rattle.slices.specs.declared.Span.{Span}
 
 -- the text that stands there in the file
 abbrev pub text_at : Span → List ℕ → List ℕ

@@ -1,14 +1,13 @@
-// The fields of a line, by where they stand.
+// The fields of a line, by where they stand, and their texts.
 #![tactic(auto)]
 
-pub mod texts;
+ghost use Rattle.std.specs.Prelude.{◌≡◌, ◌∷◌, ◌++◌, position};
+ghost use Rattle.slices.specs.Same.{same};
+ghost use Rattle.fields.specs.Fields.{stop_at, behind_in, field_at, judged_at, six_at, is_tab, is_stop, has_six, texts_at, texts_now};
 
-ghost use Rattle.std.specs.Prelude.{◌≡◌};
-ghost use Rattle.fields.specs.Fields.{stop_at, behind_in, field_at, judged_at, six_at, is_tab, has_six};
+use slices::Span;
 
-use texts::Span;
-
-// The context, the term and the type of a line.
+// Where the context, the term and the type of a line stand.
 #[derive(Clone, Copy)]
 pub struct Judged {
     pub context: Span,
@@ -16,7 +15,15 @@ pub struct Judged {
     pub ty: Span,
 }
 
-// The six fields of a line.
+// The context, the term and the type of a line.
+#[derive(Clone, Copy)]
+pub struct Texts<'a> {
+    pub context: &'a [u8],
+    pub term: &'a [u8],
+    pub ty: &'a [u8],
+}
+
+// Where the six fields of a line stand.
 #[derive(Clone, Copy)]
 pub struct SixFields {
     pub own: Judged,
@@ -25,7 +32,21 @@ pub struct SixFields {
     pub second: Span,
 }
 
+impl Judged {
+    // The texts that stand there in a file.
+    pub fn of(self, file: &[u8]) -> Texts
+        ensures { texts_now result ≡ texts_at self file.now }
+    {
+        Texts {
+            context: self.context.of(file),
+            term: self.term.of(file),
+            ty: self.ty.of(file),
+        }
+    }
+}
+
 // The six fields from an index on; a tab ends each but the last, which a line feed ends, where `has_six` says so.
+#[tactic(auto, unfolding(crate::specs::Fields::six_at))]
 pub fn six_at(file: &[u8], from: usize) -> SixFields
     ensures { result ≡ six_at file.now from }
 {
@@ -42,6 +63,7 @@ pub fn six_at(file: &[u8], from: usize) -> SixFields
 }
 
 // The first three fields from an index on.
+#[tactic(auto, unfolding(crate::specs::Fields::judged_at))]
 pub fn judged_at(file: &[u8], from: usize) -> Judged
     ensures { result ≡ judged_at file.now from }
 {
@@ -55,22 +77,12 @@ pub fn judged_at(file: &[u8], from: usize) -> Judged
 pub fn has_six(file: &[u8], line: SixFields) -> bool
     ensures { result ≡ has_six file.now line }
 {
-    if !is_tab(file, line.own.context.to) {
-        return false;
-    }
-    if !is_tab(file, line.own.term.to) {
-        return false;
-    }
-    if !is_tab(file, line.own.ty.to) {
-        return false;
-    }
-    if !is_tab(file, line.rule.to) {
-        return false;
-    }
-    if !is_tab(file, line.first.to) {
-        return false;
-    }
-    !is_tab(file, line.second.to)
+    is_tab(file, line.own.context.to)
+        && is_tab(file, line.own.term.to)
+        && is_tab(file, line.own.ty.to)
+        && is_tab(file, line.rule.to)
+        && is_tab(file, line.first.to)
+        && !is_tab(file, line.second.to)
 }
 
 fn is_tab(file: &[u8], at: usize) -> bool
@@ -103,15 +115,33 @@ fn behind(file: &[u8], at: usize) -> usize
 fn stop_from(file: &[u8], from: usize) -> usize
     ensures { result ≡ stop_at file.now from }
 {
-    let mut at = from;
-    while at < file.len() {
-        if file[at] == slices::TAB {
-            return at;
-        }
-        if file[at] == slices::LINE_FEED {
-            return at;
-        }
-        at += 1;
-    }
-    at
+    let rest = slices::cut(file, from, file.len());
+    from + first_stop(rest).unwrap_or(rest.len())
+}
+
+// The index of the first tab or line feed.
+fn first_stop(s: &[u8]) -> Option<usize>
+    ensures { result ≡ position is_stop s.now }
+{
+    s.iter().position(|b| is_stop(*b))
+}
+
+// Whether a byte ends a field.
+fn is_stop(b: u8) -> bool
+    ensures { result ≡ is_stop b }
+{
+    b == slices::TAB || b == slices::LINE_FEED
+}
+
+// Whether a text is a byte and then two texts.
+pub fn is_join(w: &[u8], head: u8, a: &[u8], b: &[u8]) -> bool
+    ensures { result ≡ same w.now (head ∷ (a.now ++ b.now)) }
+{
+    let Some((first, rest)) = w.split_first() else {
+        return false;
+    };
+    let Some(last) = rest.strip_prefix(a) else {
+        return false;
+    };
+    *first == head && last == b
 }

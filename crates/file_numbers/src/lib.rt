@@ -6,26 +6,27 @@ ghost use Rattle.checking.specs.Answer.{answer_of as checkingAnswer};
 ghost use Rattle.matching.specs.Answer.{answer_of as matchingAnswer};
 ghost use Rattle.codes.specs.Encoding.{check_number, match_number};
 
-use checking::Checking;
-use matching::Matching;
+use checking::Refused;
 
 // The number of checking's answer.
-pub fn check_number(answer: Checking) -> u64
+#[tactic(auto, unfolding(codes::specs::Encoding::check_number))]
+pub fn check_number(answer: Result<usize, Refused>) -> u64
     ensures { result ≡ check_number (checkingAnswer answer) }
 {
     match answer {
-        Checking::Accepted(lines) => codes::narrow(120, lines, 0),
-        _ => codes::wide(checking::number(answer), checking::place(answer)),
+        Ok(lines) => codes::narrow(120, lines, 0),
+        Err(refused) => codes::refused(&refused),
     }
 }
 
 // The number of matching's answer.
-pub fn match_number(answer: Matching) -> u64
+#[tactic(auto, unfolding(codes::specs::Encoding::match_number))]
+pub fn match_number(answer: Result<bool, Refused>) -> u64
     ensures { result ≡ match_number (matchingAnswer answer) }
 {
     match answer {
-        Matching::Match => codes::narrow(180, 0, 0),
-        Matching::NoMatch => codes::narrow(181, 0, 0),
-        _ => codes::wide(matching::number(answer), matching::place(answer)),
+        Ok(true) => codes::narrow(180, 0, 0),
+        Ok(false) => codes::narrow(181, 0, 0),
+        Err(refused) => codes::refused(&refused),
     }
 }

@@ -8,18 +8,18 @@ ghost use Rattle.slices.specs.Put.{put, behind};
 use slices::cut;
 
 // Copies all of `piece` to index `at` of `dst`, where it fits.
+// Kept: byte by byte, since `copy_from_slice` makes the archive import `memmove` beside `memcpy` and `memset` (docs/FIRMWARE.md, a test).
 fn copy_in(piece: &[u8], dst: &mut [u8], at: usize)
     requires { at + length piece.now ≤ length dst.old }
     ensures { dst.new ≡ put at piece.now dst.old }
 {
-    let mut i = 0;
-    while i < piece.len() {
-        dst[at + i] = piece[i];
-        i += 1;
+    for (i, b) in piece.iter().enumerate() {
+        dst[at + i] = *b;
     }
 }
 
 // Writes a part of `src` to index `at` of `dst` and answers the index behind it; changes nothing where it does not fit.
+#[tactic(auto, unfolding(slices::specs::Put::put, slices::specs::Put::behind))]
 pub fn append(src: &[u8], from: usize, to: usize, dst: &mut [u8], at: usize) -> usize
     ensures { (dst.new ≡ put at (part from to src.now) dst.old)
         × (result ≡ behind at (part from to src.now) dst.old) }
@@ -36,6 +36,7 @@ pub fn append(src: &[u8], from: usize, to: usize, dst: &mut [u8], at: usize) -> 
 }
 
 // Writes one byte to index `at` of `dst` and answers the index behind it; changes nothing where it does not fit.
+#[tactic(auto, unfolding(slices::specs::Put::put, slices::specs::Put::behind))]
 pub fn append_byte(b: u8, dst: &mut [u8], at: usize) -> usize
     ensures { (dst.new ≡ put at (b ∷ []) dst.old) × (result ≡ behind at (b ∷ []) dst.old) }
 {
@@ -50,11 +51,8 @@ pub fn append_byte(b: u8, dst: &mut [u8], at: usize) -> usize
 pub fn zero_from(dst: &mut [u8], at: usize)
     ensures { dst.new ≡ take at dst.old ++ replicate (length dst.old - at) 0 }
 {
-    let mut i = at;
-    while i < dst.len() {
-        dst[i] = 0;
-        i += 1;
-    }
+    let kept = at.min(dst.len());
+    dst[kept..].fill(0);
 }
 
 // Zeros behind the first `size` bytes of `area`, and in the whole of `work`.

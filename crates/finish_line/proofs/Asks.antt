@@ -9,6 +9,7 @@ use mathlib.Core.Logic.{◌↔◌}
 use mathlib.Core.Bool.{Bool, true, false, ◌&&◌}
 use mathlib.Core.Option.{Option, none, some}
 use mathlib.Core.List.{List}
+use Rattle.std.specs.Prelude.{Option as Perhaps, None, Some}
 use lib.Dec.{leb}
 use borrow.Author.Tests.{leb-true, le-leb, lt-leb}
 use lib.ListN.{length, take, length-take}
@@ -24,17 +25,20 @@ use Rattle.line_states.specs.End.{end_of}
 use Rattle.line_states.proofs.Buffer.{kept-take}
 use Rattle.line_states.proofs.Caps.{number-exact}
 use Rattle.line_chunks.proofs.Says.{Says, input_of, after, line-says}
-use Rattle.finish_line.specs.declared.Asked.{Asked}
-use Rattle.finish_line.specs.declared.Asked.TheVariants.{OtherShape, Request}
+use Rattle.finish_line.specs.declared.Request.{Request}
 use Rattle.finish_line.specs.Request.{request_if, is_area_size, request_with, request_of}
 use Rattle.finish_line.specs.Request.{Request as Wanted}
 use Rattle.finish_line.specs.Answer.{asked_if, asked_of}
 
+-- a request of those numbers
+abbrev pub request : (fuel area length : ℕ) → Perhaps Request
+request fuel area length = Some (record { fuel = fuel; area = area; length = length })
+
 -- what an input that asks for so much leaves in the answer and in the buffer
-abbrev pub Answers : (buffer : List ℕ) → Option Wanted → Asked → (buffer' : List ℕ) → Type 0
-Answers buffer none asked buffer' = asked ≡ OtherShape
+abbrev pub Answers : (buffer : List ℕ) → Option Wanted → Perhaps Request → (buffer' : List ℕ) → Type 0
+Answers buffer none asked buffer' = asked ≡ None
 Answers buffer (some (Wanted.request fuel area term)) asked buffer' =
-    (asked ≡ Request (min fuel number_cap) area (min (length term) length_cap)) × (buffer' ≡ kept_in buffer (take length_cap term))
+    (asked ≡ request (min fuel number_cap) area (min (length term) length_cap)) × (buffer' ≡ kept_in buffer (take length_cap term))
 
 -- the cap changes no area size in range, and makes none
 size-capped : (n : ℕ) → is_area_size (min n number_cap) ≡ is_area_size n
@@ -54,7 +58,7 @@ size_exact n e =
     number-exact n (omega arith)
 
 -- a line that has not ended asks for nothing
-unended : (line : Line) → end_of line ≡ none → asked_of line ≡ OtherShape
+unended : (line : Line) → end_of line ≡ none → asked_of line ≡ None
 unended (InFirst number) e = refl
 unended (InSecond first number) e = refl
 unended (InThird first second number length) e = refl
@@ -93,13 +97,13 @@ module _ (buffer : List ℕ) (chunks : List (List ℕ)) where
   Answered o = Answers buffer o (asked_of (after buffer chunks).line) (after buffer chunks).buffer
 
   -- of another shape exactly where the definition has no request
-  pub other-shape : (request_of (input_of chunks) ≡ none) ↔ (asked_of (after buffer chunks).line ≡ OtherShape)
+  pub other-shape : (request_of (input_of chunks) ≡ none) ↔ (asked_of (after buffer chunks).line ≡ None)
   other-shape = (
     λ e. subst Answered e line-answers,
     go (request_of (input_of chunks)) line-answers,
   )
     where
-      go : (o : Option Wanted) → Answered o → asked_of (after buffer chunks).line ≡ OtherShape → o ≡ none
+      go : (o : Option Wanted) → Answered o → asked_of (after buffer chunks).line ≡ None → o ≡ none
       go none answer e = refl
       go (some (Wanted.request fuel area term)) answer e = let asked = answer.0 in cc
 
@@ -108,7 +112,7 @@ module _ (buffer : List ℕ) (chunks : List (List ℕ)) where
     both = subst Answered e line-answers
 
     -- a request's numbers: the area size is exact, fuel and length are exact up to their caps
-    pub request-asked : asked_of (after buffer chunks).line ≡ Request (min fuel number_cap) area (min (length term) length_cap)
+    pub request-asked : asked_of (after buffer chunks).line ≡ request (min fuel number_cap) area (min (length term) length_cap)
     request-asked = both.0
 
     -- each byte of the buffer: the term's first bytes, and behind them what stood there

@@ -1,28 +1,27 @@
--- What a line that has been fed its input asks for, and the number of input that asks for nothing (REQUIREMENTS, Programs).
-use Rattle.std.specs.Prelude.{ℕ, Bool, true, false}
+-- What a line that has been fed its input asks for, and what refuses input that asks for nothing (REQUIREMENTS, Programs).
+use Rattle.std.specs.Prelude.{ℕ, Bool, true, false, Option, None, Some}
 use Rattle.line_states.specs.declared.Line.{Line}
 use Rattle.line_states.specs.declared.Line.TheVariants.{InFirst, InSecond, InThird, Ended, Other}
+use Rattle.reading.specs.Reply.{Reply}
 use Rattle.finish_line.specs.Request.{is_area_size}
-use Rattle.finish_line.specs.declared.Asked.{Asked}
-use Rattle.finish_line.specs.declared.Asked.TheVariants.{OtherShape, Request}
+use Rattle.finish_line.specs.declared.Request.{Request}
 
 -- a request where the area size is in range
-abbrev pub asked_if : (sized : Bool) → (fuel area length : ℕ) → Asked
-asked_if true fuel area length = Request fuel area length
-asked_if false fuel area length = OtherShape
+abbrev pub asked_if : (sized : Bool) → (fuel area length : ℕ) → Option Request
+asked_if true fuel area length = Some (record { fuel = fuel; area = area; length = length })
+asked_if false fuel area length = None
 
-abbrev pub asked_with : (fuel area length : ℕ) → Asked
+abbrev pub asked_with : (fuel area length : ℕ) → Option Request
 asked_with fuel area length = asked_if (is_area_size area) fuel area length
 
 -- and only where the line has ended and nothing came behind it
-abbrev pub asked_of : Line → Asked
-asked_of (InFirst number) = OtherShape
-asked_of (InSecond first number) = OtherShape
-asked_of (InThird first second number length) = OtherShape
+abbrev pub asked_of : Line → Option Request
+asked_of (InFirst number) = None
+asked_of (InSecond first number) = None
+asked_of (InThird first second number length) = None
 asked_of (Ended first second third length) = asked_with first second length
-asked_of Other = OtherShape
+asked_of Other = None
 
--- the number of input of another shape, 0 of a request
-abbrev pub number_of : Asked → ℕ
-number_of OtherShape = 19
-number_of (Request fuel area length) = 0
+-- what refuses input of another shape
+abbrev pub shape_refusal : Reply ⊥
+shape_refusal = Reply.refused 19 0

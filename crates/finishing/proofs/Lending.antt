@@ -8,6 +8,7 @@ use borrow.Author.Tests.{le-ltb, leb-true, leb-false}
 use lib.Dec.{leb}
 use lib.ListN.{length, take, drop, replicate, length-append, length-take}
 use lib.Seq.{take-take, take_at, length-take-le}
+use Rattle.std.specs.Prelude.{Result, Ok, Err, IsOk}
 use Rattle.calculus.specs.Term.{Term, text, size}
 use Rattle.calculus.specs.Order.{Next, next}
 use Rattle.calculus.proofs.PrefixCode.{length-text}
@@ -17,6 +18,9 @@ use Rattle.reading.specs.Reading.{term_read}
 use Rattle.reading.specs.Area.{holding}
 use Rattle.reading.proofs.Terms.{term-read}
 use Rattle.stepping.specs.Held.{Holds}
+use Rattle.stepping.specs.declared.Stepped.{Stepped as Declared}
+use Rattle.stepping.specs.declared.Refused.{Refused}
+use Rattle.stepping.specs.Answer.{answer_of}
 use Rattle.stepping.specs.Stepping.{Stepped, After, step_to, step_next, step_admitted, stepping_of}
 use Rattle.finishing.specs.Loop.{StepsOn}
 
@@ -82,3 +86,8 @@ module _ (area : List ℕ) (len : ℕ) (work : List ℕ) (n : ℕ) (t : Term) (r
       let within : len ≤ n = omega (arith, h.within) in
       let front : Holds (take n area) len t = record { within = omega arith; written = take-take len n area within ∙ h.written } in
       lent-next part sized (next t) refl (e ∙ stepping_held (take n area) len (take n work) t (omega arith) (omega arith) front)
+
+-- stepping did not refuse
+pub never-refused : {area area' : List ℕ} {t : Term} (r : Result Declared Refused) → StepsOn area area' t (answer_of r) → IsOk r
+never-refused (Ok x) s = refl
+never-refused (Err e) s = elim s [ ]

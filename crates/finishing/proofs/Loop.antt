@@ -5,14 +5,12 @@ use mathlib.Core.Path.{◌≡◌, refl, sym, ◌∙◌, ap, subst}
 use mathlib.Core.Bool.{Bool, true, false, cond}
 use mathlib.Core.List.{List, [], ◌++◌}
 use lib.ListN.{length, take, length-append}
-use Rattle.calculus.specs.Limits.{fuel_limit}
 use Rattle.calculus.specs.Term.{Term, size}
 use Rattle.calculus.specs.Steps.{Steps}
 use Rattle.calculus.specs.Run.{Outcome, run, count, reached}
 use Rattle.calculus.specs.Counts.{tally, uses}
 use Rattle.stepping.specs.Held.{Holds}
 use Rattle.stepping.proofs.Calls.{held_unique}
-use Rattle.tallies.specs.Tallies.{Addable}
 use Rattle.reading.specs.Stop.{has_stop}
 use Rattle.finishing.specs.Finishing.{Ran, no_uses}
 use Rattle.finishing.specs.Loop.{end_without_fuel, Ready, MovesOn, Reaches}
@@ -80,17 +78,6 @@ module _
         -- the steps made are within the fuel
         pub at-few : made + more ≤ fuel
         at-few = omega (arith, now.advances.few, now.advances.counted)
-
-        -- the counts can be added
-        pub at-addable : fuel ≤ fuel_limit → Addable counts later
-        at-addable few =
-            record {
-              used = at.used;
-              later = now.advances.rules;
-              first = at.tallied;
-              second = now.advances.tallied;
-              few = omega (arith, at-few, at.counted, now.advances.counted);
-            }
 
         -- steps keep the invariant
         pub at-batch :

@@ -3,8 +3,6 @@ use Prim.Native.Nat.{ℕ, ◌≤◌, ◌<◌}
 use native.Mathlib.Omega.{arith}
 use mathlib.Core.Path.{◌≡◌, refl, sym, ◌∙◌, ap, subst}
 use mathlib.Core.List.{List, [], ◌∷◌, Memᴰ}
-use types.Run.{OneOf, miss}
-use denote.Enum.Declared.{tag_of}
 use lib.ListN.{length}
 use Rattle.calculus.specs.Term.{Term, size}
 use Rattle.calculus.specs.Order.{Next, next}
@@ -12,15 +10,13 @@ use Rattle.calculus.specs.Rule.{rule_numbers}
 use Rattle.calculus.specs.Steps.{Steps}
 use Rattle.calculus.specs.Counts.{tally}
 use Rattle.calculus.proofs.Steps.{steps-one, next-listed}
-use Rattle.reading.specs.Reply.{Reply, passed_on}
-use Rattle.reading.specs.Answer.{answer_of as readingAnswer}
+use Rattle.reading.specs.Reply.{Reply}
 use Rattle.stepping.specs.Held.{Holds}
 use Rattle.stepping.specs.Stepping.{Stepped}
 use Rattle.stepping.specs.Batch.{Advances}
-use Rattle.stepping.specs.Answer.{answer_of}
-use Rattle.stepping.specs.declared.Stepping.{Stepping}
-use Rattle.stepping.specs.declared.Stepping.TheVariants.{AreaTooLong, WorkTooShort, LengthTooLong, Unread, Normal, NoRoom, Done}
-use Rattle.stepping.specs.contracts.Stepping.{the_type}
+use Rattle.stepping.specs.Answer.{stepped_of}
+use Rattle.stepping.specs.declared.Stepped.{Stepped as Declared}
+use Rattle.stepping.specs.declared.Stepped.TheVariants.{Normal, NoRoom, Done}
 use Rattle.tallies.specs.Tallies.{Countable, bumped}
 use Rattle.tallies.proofs.Uses.{use-counted, use-tallied}
 use Rattle.finishing.specs.Loop.{Ready, StepsOn, MovesOn}
@@ -44,105 +40,81 @@ stays {size' = size'} {area' = area'} a h =
 -- ---- what stepping answered
 
 module _ {area area' : List ℕ} {t : Term} where
-  -- it did not refuse
-  never : (r : Reply ℕ) → ¬ StepsOn area area' t (passed_on r)
-  never (Reply.refused number place) s = elim s [ ]
-  never (Reply.answered n) s = elim s [ ]
-
   -- the rule of a step that was made is listed
   step-listed : {rule n : ℕ} → StepsOn area area' t (Reply.answered (Stepped.stepped rule n)) → Memᴰ rule rule_numbers
   step-listed (StepsOn.stepped f fits held) = next-listed t f
 
   -- no step: what comes next, if anything, is larger than the area
   answered-none :
-      (r : Stepping) → OneOf (0 ∷ 1 ∷ 2 ∷ 3 ∷ 4 ∷ 5 ∷ []) (tag_of the_type r) → StepsOn area area' t (answer_of r) →
+      (x : Declared) → ((rule n : ℕ) → ¬ (x ≡ Done rule n)) → StepsOn area area' t (Reply.answered (stepped_of x)) →
       ((rule : ℕ) (u : Term) → next t ≡ Next.step rule u → length area < size u) × Holds area' (size t) t
-  answered-none AreaTooLong k s = elim s [ ]
-  answered-none WorkTooShort k s = elim s [ ]
-  answered-none LengthTooLong k s = elim s [ ]
-  answered-none (Unread reading) k s = absurd (never (readingAnswer reading) s)
   answered-none (Normal n) k (StepsOn.normal e held) = (λ rule u f. let wrong : ◌≡◌ {A = ℕ} 0 1 = cc (e, f) in absurd (omega arith), held)
   answered-none (NoRoom n) k (StepsOn.no_room {u = w} e larger held) =
       (λ rule u f. let same : u ≡ w = cc (e, f) in subst (λ (x : Term). length area < size x) (sym same) larger, held)
-  answered-none (Done rule n) k s = absurd (miss (0 ∷ 1 ∷ 2 ∷ 3 ∷ 4 ∷ 5 ∷ []) 6 tt k)
+  answered-none (Done rule n) k s = absurd (k rule n refl)
 
 -- ---- the ways out
 
 module _
     {area : List ℕ} {size' : ℕ} {work : List ℕ} {most made : ℕ} {counts : List ℕ} {size₁ : ℕ} {area₁ : List ℕ}
     (ready : Ready area size' work)
-    (batch : (t : Term) → Holds area size' t → Advances area t most made counts size₁ area₁)
+    (batch : (t : Term) → Holds area size' t → Advances area t most made counts size₁ area₁) (none : made ≤ 0) (long : length area₁ ≡ length area)
+    {area₂ : List ℕ} (x : Declared) (steps : (t : Term) → Holds area₁ size₁ t → StepsOn area₁ area₂ t (Reply.answered (stepped_of x)))
   where
-    -- several steps at once
-    pub moves-several : 0 < made → (t : Term) → Holds area size' t → MovesOn area t most made counts size₁ area₁
-    moves-several some t h = record { advances = batch t h; stuck = λ none. absurd (omega arith) }
+    -- what comes next after the term
+    then_next : (t : Term) → Holds area size' t → StepsOn area₁ area₂ t (Reply.answered (stepped_of x))
+    then_next t h = steps t (stays (batch t h) none).1
 
-    module _ (none : made ≤ 0) (long : length area₁ ≡ length area) where
-      -- no step made: the term is there as before
-      pub moves-ready : Ready area₁ size₁ work
-      moves-ready =
-          record {
-            short = omega (arith, ready.short);
-            room = omega (arith, ready.room);
-            term = ready.term;
-            held = (stays (batch ready.term ready.held) none).1;
-          }
+    -- nothing comes next, or it has no room
+    pub moves-none :
+        ((rule n : ℕ) → ¬ (x ≡ Done rule n)) → (t : Term) → Holds area size' t →
+        MovesOn area t most made counts size₁ area₂
+    moves-none k t h =
+        let (empty, still) = stays (batch t h) none in
+        let (larger, held) = answered-none x k (then_next t h) in
+        record {
+          advances =
+              record {
+                rules = [];
+                term = t;
+                steps = Steps.none;
+                few = omega arith;
+                counted = omega arith;
+                tallied = empty;
+                held = subst (λ (n : ℕ). Holds area₂ n t) (sym (held-size still)) held;
+              };
+          stuck = λ e rule u f. omega (arith, larger rule u f);
+        }
 
-      module _ {area₂ : List ℕ} (r : Stepping) (steps : (t : Term) → Holds area₁ size₁ t → StepsOn area₁ area₂ t (answer_of r)) where
-        -- what comes next after the term
-        then_next : (t : Term) → Holds area size' t → StepsOn area₁ area₂ t (answer_of r)
-        then_next t h = steps t (stays (batch t h) none).1
+    module _ {rule next' : ℕ} (done : x ≡ Done rule next') where
+      -- it is a step by that rule
+      stepped : (t : Term) → Holds area size' t → StepsOn area₁ area₂ t (Reply.answered (Stepped.stepped rule next'))
+      stepped t h = subst (λ (y : Declared). StepsOn area₁ area₂ t (Reply.answered (stepped_of y))) done (then_next t h)
 
-        -- nothing comes next, or it has no room
-        pub moves-none :
-            OneOf (0 ∷ 1 ∷ 2 ∷ 3 ∷ 4 ∷ 5 ∷ []) (tag_of the_type r) → (t : Term) → Holds area size' t →
-            MovesOn area t most made counts size₁ area₂
-        moves-none k t h =
-            let (empty, still) = stays (batch t h) none in
-            let (larger, held) = answered-none r k (then_next t h) in
-            record {
-              advances =
-                  record {
-                    rules = [];
-                    term = t;
-                    steps = Steps.none;
-                    few = omega arith;
-                    counted = omega arith;
-                    tallied = empty;
-                    held = subst (λ (n : ℕ). Holds area₂ n t) (sym (held-size still)) held;
-                  };
-              stuck = λ e rule u f. omega (arith, larger rule u f);
-            }
+      -- the rule's count can take the step
+      pub moves-count : Countable counts rule
+      moves-count =
+          let (empty, still) = stays (batch ready.term ready.held) none in
+          use-counted [] empty (step-listed (stepped ready.term ready.held)) (omega arith)
 
-        module _ {rule next' : ℕ} (done : r ≡ Done rule next') where
-          -- it is a step by that rule
-          stepped : (t : Term) → Holds area size' t → StepsOn area₁ area₂ t (Reply.answered (Stepped.stepped rule next'))
-          stepped t h = subst (λ (x : Stepping). StepsOn area₁ area₂ t (answer_of x)) done (then_next t h)
-
-          -- the rule's count can take the step
-          pub moves-count : Countable counts rule
-          moves-count =
-              let (empty, still) = stays (batch ready.term ready.held) none in
-              use-counted [] empty (step-listed (stepped ready.term ready.held)) (omega arith)
-
-          -- one step
-          pub moves-one :
-              {counts' : List ℕ} → 1 ≤ most → counts' ≡ bumped counts rule → (t : Term) → Holds area size' t →
-              MovesOn area t most 1 counts' next' area₂
-          moves-one {counts'} some bump t h = go (stepped t h)
-            where
-              go : {n : ℕ} → StepsOn area₁ area₂ t (Reply.answered (Stepped.stepped rule n)) → MovesOn area t most 1 counts' n area₂
-              go (StepsOn.stepped {u = u} f fits held) =
-                  record {
-                    advances =
-                        record {
-                          rules = rule ∷ [];
-                          term = u;
-                          steps = steps-one f (omega arith);
-                          few = some;
-                          counted = refl;
-                          tallied = bump ∙ use-tallied [] (stays (batch t h) none).0 (next-listed t f);
-                          held = held;
-                        };
-                    stuck = λ e. absurd (omega arith);
-                  }
+      -- one step
+      pub moves-one :
+          {counts' : List ℕ} → 1 ≤ most → counts' ≡ bumped counts rule → (t : Term) → Holds area size' t →
+          MovesOn area t most 1 counts' next' area₂
+      moves-one {counts'} some bump t h = go (stepped t h)
+        where
+          go : {n : ℕ} → StepsOn area₁ area₂ t (Reply.answered (Stepped.stepped rule n)) → MovesOn area t most 1 counts' n area₂
+          go (StepsOn.stepped {u = u} f fits held) =
+              record {
+                advances =
+                    record {
+                      rules = rule ∷ [];
+                      term = u;
+                      steps = steps-one f (omega arith);
+                      few = some;
+                      counted = refl;
+                      tallied = bump ∙ use-tallied [] (stays (batch t h) none).0 (next-listed t f);
+                      held = held;
+                    };
+                stuck = λ e. absurd (omega arith);
+              }

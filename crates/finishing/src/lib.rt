@@ -2,22 +2,22 @@
 // makes the next one or finds that it has no room.
 #![tactic(auto)]
 
-ghost use Rattle.std.specs.Prelude.{◌≡◌, ◌≤◌, ◌*◌, min, length};
+ghost use Rattle.std.specs.Prelude.{◌≡◌, ◌≤◌, IfOk, length};
 ghost use Rattle.calculus.specs.Limits.{fuel_limit};
 ghost use Rattle.calculus.specs.Term.{Term};
 ghost use Rattle.calculus.specs.Run.{run};
+ghost use Rattle.reading.specs.Reply.{Reply};
 ghost use Rattle.stepping.specs.Held.{Holds};
-ghost use Rattle.stepping.specs.Answer.{answer_of};
-ghost use Rattle.admission.specs.Answer.{reply_of};
-ghost use Rattle.finishing.specs.Finishing.{After, no_run, finishing_of};
-ghost use Rattle.finishing.specs.Answer.{outcome_of, ran_of};
+ghost use Rattle.stepping.specs.Answer.{stepped_of};
+ghost use Rattle.finishing.specs.Finishing.{After, finishing_of};
+ghost use Rattle.finishing.specs.Answer.{outcome_of, ran_of, reply_of, ran_in};
 ghost use Rattle.finishing.specs.Loop.{end_without_fuel, Ready, StepsOn, MovesOn, Reaches};
 
-use admission::Admission;
-use stepping::{Batch, Stepping};
+use admission::Refused;
+use stepping::{Batch, Stepped};
 
 // How a run ends.
-#[derive(Clone, Copy)]
+#[derive(Clone, Copy, PartialEq, Eq)]
 pub enum Outcome {
     Finished,
     Spent,
@@ -33,52 +33,26 @@ pub struct Run {
     pub size: usize,
 }
 
-// What finishing answers. Beside a refusal the record is spent, and all its numbers are 0.
-#[derive(Clone, Copy)]
-pub struct Finishing {
-    pub admission: Admission,
-    pub run: Run,
-}
-
-// The record that stands beside a refusal.
-pub fn no_run() -> Run
-    ensures { ran_of result ≡ no_run }
-{
-    Run {
-        outcome: Outcome::Spent,
-        count: 0,
-        by_rule: [0; calculus::RULES],
-        size: 0,
-    }
-}
-
-// How much of an area of `whole` bytes the next term can need: twice the size of the term, at most all of it.
-fn needed(size: usize, whole: usize) -> usize
-    ensures { result ≡ min whole (2 * size) }
-{
-    if whole / 2 < size {
-        return whole;
-    }
-    size + size
-}
-
 // How a run ends that has no fuel left, by the bytes of the term reached.
 fn end_without_fuel(s: &[u8]) -> Outcome
     ensures { outcome_of result ≡ end_without_fuel s.now }
 {
     if reading::has_stop(s) {
-        return Outcome::Spent;
+        Outcome::Spent
+    } else {
+        Outcome::Finished
     }
-    Outcome::Finished
 }
 
-// The next step of the term in the first `size` bytes.
-fn step_once(area: &mut [u8], size: usize, work: &mut [u8]) -> Stepping
+// The next step of the term in the first `size` bytes. The next term can need twice the size of the term, at most the whole area.
+// Kept: area, size and work are three parameters here and below, as in the public functions; a struct of the two lent slices would be
+// built again for each call of stepping, which is no plainer.
+fn step_once(area: &mut [u8], size: usize, work: &mut [u8]) -> Stepped
     requires { Ready area.old size work.old }
-    ensures { (t : Term) → Holds area.old size t → StepsOn area.old area.new t (answer_of result) }
+    ensures { (t : Term) → Holds area.old size t → StepsOn area.old area.new t (Reply.answered (stepped_of result)) }
 {
-    let n = needed(size, area.len());
-    stepping::step(&mut area[..n], size, &mut work[..n])
+    let needed = area.len().min(2 * size);
+    stepping::step(&mut area[..needed], size, &mut work[..needed]).unwrap()
 }
 
 // Up to `most` steps of the term in the first `size` bytes: several at once, or else the next one alone. None only where there is no next
@@ -93,8 +67,7 @@ fn make_steps(area: &mut [u8], size: usize, work: &mut [u8], most: u64) -> Batch
     if 0 < batch.made {
         return batch;
     }
-    let stepping = step_once(area, batch.size, work);
-    let Stepping::Done(rule, next) = stepping else {
+    let Stepped::Done(rule, next) = step_once(area, batch.size, work) else {
         return batch;
     };
     let mut by_rule = batch.by_rule;
@@ -116,6 +89,7 @@ fn run_term(area: &mut [u8], len: usize, work: &mut [u8], fuel: u64) -> Run
     let mut size = len;
     let mut count: u64 = 0;
     let mut by_rule = [0u32; calculus::RULES];
+    // Kept: a `while`, since a batch makes several steps at once.
     while count < fuel {
         if !reading::has_stop(&area[..size]) {
             return Run {
@@ -150,19 +124,14 @@ fn run_term(area: &mut [u8], len: usize, work: &mut [u8], fuel: u64) -> Run
 }
 
 // The run of the term in the first `len` bytes of the area; the work area is at least as long as the area.
-pub fn finish(area: &mut [u8], len: usize, work: &mut [u8], fuel: u64) -> Finishing
-    ensures work_after { After.after (reply_of result.admission) (ran_of result.run) area.new work.new ≡ finishing_of area.old len work.old fuel }
-    ensures bounded { result.run.count ≤ fuel }
+#[tactic(auto, unfolding(crate::specs::Finishing::finishing_of))]
+pub fn finish(area: &mut [u8], len: usize, work: &mut [u8], fuel: u64) -> Result<Run, Refused>
+    ensures work_after { After.after (reply_of result) (ran_in result) area.new work.new ≡ finishing_of area.old len work.old fuel }
+    ensures bounded { IfOk result (λ run. run.count ≤ fuel) }
 {
-    let admission = admission::admit(area, len, work, fuel);
-    let Admission::Admitted = admission else {
-        return Finishing {
-            admission,
-            run: no_run(),
-        };
-    };
+    admission::admit(area, len, work, fuel)?;
     let run = run_term(area, len, work, fuel);
     let size = run.size;
     filling::clear(area, size, work);
-    Finishing { admission, run }
+    Ok(run)
 }

@@ -5,7 +5,6 @@ use native.Mathlib.Omega.{arith}
 use mathlib.Core.Path.{◌≡◌, refl, sym, ◌∙◌, ap, ap₂}
 use mathlib.Core.Bool.{Bool, true, false, ◌&&◌}
 use mathlib.Core.List.{List, [], ◌∷◌, ◌++◌}
-use mathlib.Core.Option.{some}
 use borrow.Author.Tests.{eq-eqb, ne_eqb}
 use Rattle.slices.specs.Same.{same}
 use Rattle.slices.proofs.Same.{equal_same, same_equal, same_unique}
@@ -23,11 +22,10 @@ use Rattle.types.proofs.Made.{arrow-text, bind-text}
 use Rattle.derivation_files.specs.Instance.{Premises, same_context, same_ty, asks_J, asks_R, asks_H, asks_A, asks_B, asks_S}
 use Rattle.derivation_files.specs.Instance.{is_bell_term, is_instance}
 use Rattle.derivation_files.specs.Checking.{premise_count}
-use Rattle.rules.specs.Rules.{rule_of, is_bell_text}
-use Rattle.rules.specs.declared.Rule.{Rule}
+use Rattle.rules.specs.Rules.{named_rule, is_bell_text}
 use Rattle.instances.specs.Behind.{simple_behind}
 use Rattle.fields.specs.Fields.{Texts}
-use Rattle.instances.specs.TextInstance.{type_text, asks_text, asks_text_J, asks_text_R, asks_text_H, asks_text_A, asks_text_B}
+use Rattle.instances.specs.TextInstance.{type_text, asks_text_J, asks_text_R, asks_text_H, asks_text_A, asks_text_B}
 use Rattle.instances.specs.TextInstance.{asks_text_S, instance_text}
 use Rattle.slices.proofs.Decimal.{and_both}
 use Rattle.fields.proofs.Joined.{differ}
@@ -283,7 +281,7 @@ bell-text (Term.bell k) = bell-letter k
 -- a line by a rule without premises
 pub instance_none :
     (name : Name) (j : Judgement) (x y : Texts) → premise_count name ≡ 0 →
-    instance_text (rule_of (some name)) (texts_of j) x y ≡ is_instance name Premises.none j
+    instance_text (named_rule name) (texts_of j) x y ≡ is_instance name Premises.none j
 instance_none Name.J (Judgement.judge G t W) x y e = ap (λ (b : Bool). b && same (text t) (text Term.J)) (asks-J G t W)
 instance_none Name.R j x y e = absurd (omega arith)
 instance_none Name.H j x y e = absurd (omega arith)
@@ -297,7 +295,7 @@ instance_none Name.K (Judgement.judge G t W) x y e = ap (λ (b : Bool). same_ty 
 -- a line by a rule with one premise
 pub instance_one :
     (name : Name) (j i : Judgement) (y : Texts) → premise_count name ≡ 1 →
-    instance_text (rule_of (some name)) (texts_of j) (texts_of i) y ≡ is_instance name (Premises.one i) j
+    instance_text (named_rule name) (texts_of j) (texts_of i) y ≡ is_instance name (Premises.one i) j
 instance_one Name.J j i y e = absurd (omega arith)
 instance_one Name.R (Judgement.judge G t W) (Judgement.judge D u X) y e =
     ap (λ (b : Bool). b && same (text t) (text (Term.R u))) (asks-R (Judgement.judge D u X) G t W)
@@ -312,7 +310,7 @@ instance_one Name.K j i y e = absurd (omega arith)
 -- a line by a rule with two premises
 pub instance_two :
     (name : Name) (j i k : Judgement) → premise_count name ≡ 2 →
-    instance_text (rule_of (some name)) (texts_of j) (texts_of i) (texts_of k) ≡ is_instance name (Premises.two i k) j
+    instance_text (named_rule name) (texts_of j) (texts_of i) (texts_of k) ≡ is_instance name (Premises.two i k) j
 instance_two Name.J j i k e = absurd (omega arith)
 instance_two Name.R j i k e = absurd (omega arith)
 instance_two Name.H (Judgement.judge G t W) (Judgement.judge D u X) (Judgement.judge E v Y) e =
@@ -327,9 +325,3 @@ instance_two Name.B (Judgement.judge G t W) (Judgement.judge D u X) (Judgement.j
 instance_two Name.s (Judgement.judge G t W) (Judgement.judge D u X) (Judgement.judge E v Y) e =
     ap (λ (b : Bool). b && same (text t) (text (Term.app u v))) (asks-S (Judgement.judge D u X) (Judgement.judge E v Y) G t W)
 instance_two Name.K j i k e = absurd (omega arith)
-
--- a test by the rule that is given
-pub asks_by :
-    (rule given : Rule) (own first second : Texts) (r : Bool) → rule ≡ given → r ≡ asks_text given own first second →
-    r ≡ asks_text rule own first second
-asks_by rule given own first second r e made = made ∙ sym (ap (λ (x : Rule). asks_text x own first second) e)

@@ -2,7 +2,7 @@
 -- term is the one that it builds of the premises' terms. `proofs/TextInstance.antt` shows that on the texts of judgements these are the
 -- tests of `derivation_files/specs/Instance.antt`.
 -- REQUIREMENTS, Typing.
-use Rattle.std.specs.Prelude.{ℕ, Bool, false, ◌&&◌, List, ◌++◌}
+use Rattle.std.specs.Prelude.{ℕ, Bool, ◌&&◌, List, ◌++◌}
 use Rattle.slices.specs.Same.{same}
 use Rattle.calculus.specs.Types.{Sign, sign_text, bell_type, simple_text}
 use Rattle.types.specs.Parse.{type_of}
@@ -10,7 +10,7 @@ use Rattle.types.specs.Tests.{is_simple}
 use Rattle.fields.specs.Fields.{Texts}
 use Rattle.rules.specs.Rules.{builds_text}
 use Rattle.rules.specs.declared.Rule.{Rule}
-use Rattle.rules.specs.declared.Rule.TheVariants.{J, R, H, A, F, I, B, S, K, Unknown}
+use Rattle.rules.specs.declared.Rule.TheVariants.{J, R, H, A, F, I, B, S, K}
 use Rattle.instances.specs.Behind.{simple_behind}
 
 -- a type's text that a sign makes of two
@@ -75,7 +75,6 @@ asks_text I own first second = asks_text_I own
 asks_text B own first second = asks_text_B own first second
 asks_text S own first second = asks_text_S own first second
 asks_text K own first second = asks_text_K own
-asks_text Unknown own first second = false
 
 -- what the rule asks, and builds
 abbrev pub instance_text : Rule → (own first second : Texts) → Bool

@@ -1,50 +1,39 @@
 -- From what reading says and what was written to the reply and the area: each way out of `join` as one law. Assumes nothing.
 use Prim.Native.Nat.{ℕ, ◌-◌, ◌≤◌, ◌<◌}
 use native.Mathlib.Omega.{arith}
-use mathlib.Core.Path.{◌≡◌, refl, sym, ◌∙◌, ap, ap₂}
-use mathlib.Core.Logic.{inl, inr}
-use mathlib.Core.List.{List, [], ◌∷◌, ◌++◌}
-use types.Run.{OneOf}
-use denote.Enum.Declared.{tag_of}
+use mathlib.Core.Path.{◌≡◌, sym, ◌∙◌, ap, ap₂}
+use mathlib.Core.List.{List, ◌++◌}
+use Rattle.std.specs.Prelude.{Err}
 use lib.ListN.{length, take, replicate}
 use Rattle.calculus.specs.Term.{text, size}
 use Rattle.calculus.proofs.PrefixCode.{length-text}
 use Rattle.slices.specs.Wrote.{Wrote}
 use Rattle.slices.proofs.Wrote.{wrote-zeros}
-use Rattle.reading.specs.Reply.{Reply, passed_on}
+use Rattle.reading.specs.Reply.{Reply}
 use Rattle.reading.specs.Reading.{reading_of}
 use Rattle.reading.specs.Answer.{answer_of as readingAnswer}
-use Rattle.reading.specs.declared.Reading.{Reading}
-use Rattle.reading.specs.declared.Reading.TheVariants.{Whole, NoLetter, NotWhole, Beyond}
-use Rattle.reading.specs.contracts.Reading.{the_type}
+use Rattle.reading.specs.declared.Misread.{Misread}
+use Rattle.joining.specs.declared.Refused.TheVariants.{Unread}
+use Rattle.joining.specs.Answer.{answer_of}
 use Rattle.reading.proofs.Terms.{whole-read, unread}
 use Rattle.joining.specs.Join.{join, join_text, join_size}
 use Rattle.joining.specs.Joining.{After, joining_of}
 use Rattle.joining.proofs.Text.{size-join, text-join}
 use Rattle.joining.proofs.Calls.{first-decides, read-decides, large-decides, small-decides}
 
--- an answer of reading that is not the first is one of the others
-pub others-unread : (r : Reading) → ((n : ℕ) → r ≡ Whole n → ⊥) → OneOf (1 ∷ 2 ∷ 3 ∷ []) (tag_of the_type r)
-others-unread (Whole n) h = absurd (h n refl)
-others-unread (NoLetter place) h = inl refl
-others-unread (NotWhole place) h = inr (inl refl)
-others-unread (Beyond place) h = inr (inr refl)
-
 module _ (f g area : List ℕ) where
   -- what reading refuses of f
   pub first-refused :
-      (r : Reading) → readingAnswer r ≡ reading_of f → OneOf (1 ∷ 2 ∷ 3 ∷ []) (tag_of the_type r) →
-      After.after (passed_on (readingAnswer r)) area ≡ joining_of f g area
-  first-refused r e k = sym (first-decides f g area (unread f r e k))
+      (m : Misread) → readingAnswer (Err m) ≡ reading_of f → After.after (answer_of (Err (Unread m))) area ≡ joining_of f g area
+  first-refused m e = sym (first-decides f g area (unread f m e))
 
   module _ (n : ℕ) (first : Reply.answered n ≡ reading_of f) where
     -- what it refuses of g
     pub second-refused :
-        (r : Reading) → readingAnswer r ≡ reading_of g → OneOf (1 ∷ 2 ∷ 3 ∷ []) (tag_of the_type r) →
-        After.after (passed_on (readingAnswer r)) area ≡ joining_of f g area
-    second-refused r e k =
+        (m : Misread) → readingAnswer (Err m) ≡ reading_of g → After.after (answer_of (Err (Unread m))) area ≡ joining_of f g area
+    second-refused m e =
         let (t, same, sized, read) = whole-read f n first in
-        sym (read-decides f g area read (unread g r e k))
+        sym (read-decides f g area read (unread g m e))
 
     module _ (m : ℕ) (second : Reply.answered m ≡ reading_of g) where
       -- 31

@@ -1,11 +1,14 @@
--- The number and the value of each case of joining's answer (REQUIREMENTS, Joining).
-use Rattle.std.specs.Prelude.{ℕ}
+-- The number and the place of each case that joining refuses, and what it answers (REQUIREMENTS, Joining).
+use Rattle.std.specs.Prelude.{ℕ, Result, Ok, Err}
 use Rattle.reading.specs.Reply.{Reply, passed_on}
-use Rattle.reading.specs.Answer.{answer_of as readingAnswer}
-use Rattle.joining.specs.declared.Joining.{Joining}
-use Rattle.joining.specs.declared.Joining.TheVariants.{Unread, TooLarge, Joined}
+use Rattle.reading.specs.Answer.{refusal_of as misreadRefusal}
+use Rattle.joining.specs.declared.Refused.{Refused}
+use Rattle.joining.specs.declared.Refused.TheVariants.{Unread, TooLarge}
 
-abbrev pub answer_of : Joining → Reply ℕ
-answer_of (Unread reading) = passed_on (readingAnswer reading)
-answer_of TooLarge = Reply.refused 31 0
-answer_of (Joined size) = Reply.answered size
+abbrev pub refusal_of : Refused → Reply ⊥
+refusal_of (Unread misread) = misreadRefusal misread
+refusal_of TooLarge = Reply.refused 31 0
+
+abbrev pub answer_of : Result ℕ Refused → Reply ℕ
+answer_of (Ok size) = Reply.answered size
+answer_of (Err refused) = passed_on (refusal_of refused)

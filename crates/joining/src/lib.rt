@@ -3,66 +3,53 @@
 
 ghost use Rattle.std.specs.Prelude.{◌≡◌, ◌≤◌, leb, length};
 ghost use Rattle.slices.specs.Wrote.{Wrote};
-ghost use Rattle.reading.specs.Reply.{number_in, place_in};
 ghost use Rattle.joining.specs.Join.{join_text, join_size};
 ghost use Rattle.joining.specs.Joining.{After, joining_of};
-ghost use Rattle.joining.specs.Answer.{answer_of};
+ghost use Rattle.joining.specs.Answer.{refusal_of, answer_of};
 
 use calculus::letters::{A, B, H, I, J, R};
 use filling::{append, append_byte, zero_from};
-use reading::Reading;
+use reading::{Misread, Refusal};
 
 // How many letters a join has beside those of its two terms (specs/Join.antt).
 const FRAME: usize = 12;
 
-// What joining answers; specs/Answer.antt gives the number and the value of each case.
+// What joining refuses; specs/Answer.antt gives the number of each case.
 #[derive(Clone, Copy)]
-pub enum Joining {
+pub enum Refused {
     // What reading refused of the first term, else of the second, unaltered.
-    Unread(Reading),
+    Unread(Misread),
     // The join is larger than the area.
     TooLarge,
-    // The size of the join, which the area now holds.
-    Joined(usize),
 }
 
-// The number of a refusal, 0 of an answer.
-pub fn number(answer: Joining) -> u64
-    ensures { result ≡ number_in (answer_of answer) }
-{
-    match answer {
-        Joining::Unread(reading) => reading::number(reading),
-        Joining::TooLarge => 31,
-        Joining::Joined(_) => 0,
+impl Refusal for Refused {
+    ghost refusal = { refusal_of };
+
+    fn number(&self) -> u64 {
+        match *self {
+            Refused::Unread(misread) => misread.number(),
+            Refused::TooLarge => 31,
+        }
+    }
+
+    fn place(&self) -> usize {
+        match *self {
+            Refused::Unread(misread) => misread.place(),
+            Refused::TooLarge => 0,
+        }
     }
 }
 
-// The place of a refusal, 0 of an answer and of what is refused without a place.
-pub fn place(answer: Joining) -> usize
-    ensures { result ≡ place_in (answer_of answer) }
-{
-    let Joining::Unread(reading) = answer else {
-        return 0;
-    };
-    reading::place(reading)
-}
-
-// Whether an area of so many bytes has room for the join of terms of these sizes. What is left of the area is compared: the sizes
-// together may be more than a `usize` holds.
+// Whether an area of so many bytes has room for the join of terms of these sizes, which together may be more than a `usize` holds: then
+// none has.
 fn has_room(f: usize, g: usize, area: usize) -> bool
     ensures { result ≡ leb (join_size f g) area }
 {
-    if area < FRAME {
+    let Some(size) = f.checked_add(g).and_then(|both| both.checked_add(FRAME)) else {
         return false;
-    }
-    let left = area - FRAME;
-    if left < f {
-        return false;
-    }
-    if left - f < g {
-        return false;
-    }
-    true
+    };
+    size <= area
 }
 
 // Writes the text of the join to the front of the area, and answers the index behind it.
@@ -80,21 +67,21 @@ fn write(f: &[u8], g: &[u8], area: &mut [u8]) -> usize
 }
 
 // The join of f and g, which does g first and then f, at the front of the area, and zeros behind it. A refusal leaves the area as it is.
-pub fn join(f: &[u8], g: &[u8], area: &mut [u8]) -> Joining
+pub fn join(f: &[u8], g: &[u8], area: &mut [u8]) -> Result<usize, Refused>
     ensures { After.after (answer_of result) area.new ≡ joining_of f.now g.now area.old }
 {
     let first = reading::read(f);
-    let Reading::Whole(f_size) = first else {
-        return Joining::Unread(first);
+    let Ok(f_size) = first else {
+        return Err(Refused::Unread(first.unwrap_err()));
     };
     let second = reading::read(g);
-    let Reading::Whole(g_size) = second else {
-        return Joining::Unread(second);
+    let Ok(g_size) = second else {
+        return Err(Refused::Unread(second.unwrap_err()));
     };
     if !has_room(f_size, g_size, area.len()) {
-        return Joining::TooLarge;
+        return Err(Refused::TooLarge);
     }
     let size = write(f, g, area);
     zero_from(area, size);
-    Joining::Joined(size)
+    Ok(size)
 }

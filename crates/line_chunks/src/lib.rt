@@ -12,12 +12,9 @@ pub fn feed(line: Line, chunk: &[u8], kept: &mut [u8]) -> Line
     ensures { state result kept.new ≡ fed (state line kept.old) chunk.now }
 {
     let mut l = line;
-    let mut i = 0;
-    while i < chunk.len() {
-        let b = chunk[i];
-        keep(l, b, kept);
-        l = line_states::fed_line(l, b);
-        i += 1;
+    for b in chunk {
+        keep(l, *b, kept);
+        l = line_states::fed_line(l, *b);
     }
     l
 }
@@ -26,12 +23,8 @@ pub fn feed(line: Line, chunk: &[u8], kept: &mut [u8]) -> Line
 fn keep(line: Line, b: u8, kept: &mut [u8])
     ensures { kept.new ≡ kept_byte line b kept.old }
 {
-    match line {
-        Line::InFirst(_) => {}
-        Line::InSecond { .. } => {}
-        Line::InThird { length, .. } => keep_at(length, b, kept),
-        Line::Ended { .. } => {}
-        Line::Other => {}
+    if let Line::InThird { length, .. } = line {
+        keep_at(length, b, kept);
     }
 }
 

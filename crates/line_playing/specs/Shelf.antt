@@ -5,13 +5,13 @@ use mathlib.Core.List.{List, [], ◌∷◌, ◌++◌, map, Memᴰ}
 use Rattle.calculus.specs.Limits.{area_limit, fuel_limit}
 use Rattle.calculus.specs.Term.{Term, text, size}
 use Rattle.calculus.specs.Run as runs
-use Rattle.finishing.specs.declared.Outcome.{Outcome}
-use Rattle.finishing.specs.declared.Outcome.TheVariants.{Finished, Spent, NoRoom}
 use Rattle.books.specs.Piece.{piece_text, uses}
 use Rattle.books.specs.Line.{Line, name_in, piece_in, WellFormed}
 use Rattle.books.specs.Book.{Given, Book}
 use Rattle.books.specs.Play.{store_size, Result, term_in, letters, Play}
 use Rattle.book_names.specs.Key.{keys_of}
+use Rattle.line_playing.specs.declared.LineEnd.{LineEnd}
+use Rattle.line_playing.specs.declared.LineEnd.TheVariants.{Finished, Spent, NoRoom}
 
 abbrev pub name_of : Result → List ℕ
 name_of (Result.result name t) = name
@@ -58,8 +58,8 @@ pub record Gives (came : Play) (l : Line) (results : List Result) (used sized : 
   pub in_store : take (used + sized) store' ≡ texts_of (Result.result (name_in l) result ∷ results)
   pub fits : used + sized ≤ store_size
 
--- what a line came to, by its outcome
-abbrev pub LineLeft : Outcome → (came : Play) (l : Line) (results : List Result) (used sized : ℕ) (area' store' : List ℕ) → Type 0
-LineLeft Finished came l results used sized area' store' = Gives came l results used sized area' store'
-LineLeft Spent came l results used sized area' store' = came ≡ Play.stopped runs.Outcome.spent (suc (length results))
-LineLeft NoRoom came l results used sized area' store' = came ≡ Play.stopped runs.Outcome.no_room (suc (length results))
+-- what a line came to
+abbrev pub LineLeft : LineEnd → (came : Play) (l : Line) (results : List Result) (used : ℕ) (area' store' : List ℕ) → Type 0
+LineLeft (Finished sized) came l results used area' store' = Gives came l results used sized area' store'
+LineLeft Spent came l results used area' store' = came ≡ Play.stopped runs.Outcome.spent (suc (length results))
+LineLeft NoRoom came l results used area' store' = came ≡ Play.stopped runs.Outcome.no_room (suc (length results))

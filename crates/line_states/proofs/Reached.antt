@@ -15,8 +15,7 @@ use Rattle.slices.specs.Numeral.{decimal_of}
 use Rattle.slices.proofs.Splitting.{Free, free-append}
 use Rattle.slices.proofs.Decimal.{decimal-free}
 use Rattle.decimals.specs.declared.Decimal.{Decimal}
-use Rattle.decimals.specs.declared.Parsed.{Parsed}
-use Rattle.decimals.specs.declared.Parsed.TheVariants.{Number, NoNumber}
+use Rattle.std.specs.Prelude.{Option, Some, None}
 use Rattle.decimals.specs.Parsed as decimals
 use Rattle.decimals.proofs.Parsing.{Numbered, state-numbered, state-unnumbered, state-fed}
 use Rattle.line_states.specs.declared.Line.{Line}
@@ -93,8 +92,8 @@ module _ (d p buffer : List ℕ) (b : ℕ) where
   from_first : (number : Decimal) → Reached d p (InFirst number) buffer → Next (InFirst number)
   from_first number (free, st, kept) = go (eqb b tab) refl
     where
-      ended : b ≡ tab → (a : Parsed) → decimals.parsed_of number ≡ a → Reached d (p ++ (b ∷ [])) (first_read a) buffer
-      ended here (Number n) e = (
+      ended : b ≡ tab → (a : Option ℕ) → decimals.parsed_of number ≡ a → Reached d (p ++ (b ∷ [])) (first_read a) buffer
+      ended here (Some n) e = (
         record {
           first = p;
           second = [];
@@ -105,7 +104,7 @@ module _ (d p buffer : List ℕ) (b : ℕ) where
         },
         kept,
       )
-      ended here NoNumber e =
+      ended here None e =
           dies_at p p b refl
           (λ rest. ap (λ (c : ℕ). parts_of (p ++ (c ∷ rest))) here ∙ first_dead p rest free (state-unnumbered number_cap p number st e))
 
@@ -119,8 +118,8 @@ module _ (d p buffer : List ℕ) (b : ℕ) where
       parted : (s : List ℕ) → r.first ++ (tab ∷ r.second) ++ s ≡ r.first ++ (tab ∷ (r.second ++ s))
       parted s = append_assoc r.first (tab ∷ r.second) s
 
-      ended : b ≡ tab → (a : Parsed) → decimals.parsed_of number ≡ a → Reached d (p ++ (b ∷ [])) (second_read n a) buffer
-      ended here (Number m) e =
+      ended : b ≡ tab → (a : Option ℕ) → decimals.parsed_of number ≡ a → Reached d (p ++ (b ∷ [])) (second_read n a) buffer
+      ended here (Some m) e =
           record {
             first = r.first;
             second = r.second;
@@ -133,7 +132,7 @@ module _ (d p buffer : List ℕ) (b : ℕ) where
             counted = omega arith;
             kept = kept ∙ sym (kept-none d);
           }
-      ended here NoNumber e =
+      ended here None e =
           dies_at p (r.first ++ (tab ∷ r.second)) b r.parted
           (λ rest.
           ap parts_of (ap (λ (c : ℕ). r.first ++ (tab ∷ r.second) ++ (c ∷ rest)) here ∙ parted (tab ∷ rest))

@@ -1,12 +1,10 @@
 -- The line as a state that is fed byte by byte: which field it is in, and the numbers so far (REQUIREMENTS, Programs). `Parts` has the
 -- same on the whole input; proofs/Reached.antt ties the two.
-use Rattle.std.specs.Prelude.{ℕ, suc, min, Bool, true, false, eqb}
+use Rattle.std.specs.Prelude.{ℕ, suc, min, Bool, true, false, eqb, Option, Some, None}
 use Rattle.calculus.specs.Limits.{area_limit, fuel_limit}
 use Rattle.slices.specs.Split.{tab, line_feed}
 use Rattle.decimals.specs.declared.Decimal.{Decimal}
 use Rattle.decimals.specs.declared.Decimal.TheVariants.{Empty}
-use Rattle.decimals.specs.declared.Parsed.{Parsed}
-use Rattle.decimals.specs.declared.Parsed.TheVariants.{Number, NoNumber}
 use Rattle.decimals.specs.Parsed as decimals
 use Rattle.line_states.specs.declared.Line.{Line}
 use Rattle.line_states.specs.declared.Line.TheVariants.{InFirst, InSecond, InThird, Ended, Other}
@@ -19,9 +17,9 @@ abbrev pub length_cap : ℕ
 length_cap = suc area_limit
 
 -- what one byte does in the first field: a tab ends it, and it has to hold a number
-abbrev pub first_read : Parsed → Line
-first_read (Number first) = InSecond first Empty
-first_read NoNumber = Other
+abbrev pub first_read : Option ℕ → Line
+first_read (Some first) = InSecond first Empty
+first_read None = Other
 
 abbrev pub in_first_if : (ends : Bool) → Decimal → ℕ → Line
 in_first_if true number b = first_read (decimals.parsed_of number)
@@ -31,9 +29,9 @@ abbrev pub in_first : Decimal → ℕ → Line
 in_first number b = in_first_if (eqb b tab) number b
 
 -- in the second field: likewise
-abbrev pub second_read : (first : ℕ) → Parsed → Line
-second_read first (Number second) = InThird first second Empty 0
-second_read first NoNumber = Other
+abbrev pub second_read : (first : ℕ) → Option ℕ → Line
+second_read first (Some second) = InThird first second Empty 0
+second_read first None = Other
 
 abbrev pub in_second_if : (ends : Bool) → (first : ℕ) → Decimal → ℕ → Line
 in_second_if true first number b = second_read first (decimals.parsed_of number)

@@ -4,7 +4,7 @@
 ghost use Rattle.std.specs.Prelude.{◌≡◌};
 ghost use Rattle.line_states.specs.Fed.{start_line, fed_line, in_first, first_read, in_second, second_read, in_third, counted};
 
-use decimals::{Decimal, Parsed};
+use decimals::Decimal;
 
 // The least number and the least length of the third field that are refused whatever they are.
 const NUMBER_CAP: u64 = calculus::FUEL_LIMIT + 1;
@@ -34,6 +34,7 @@ pub enum Line {
         length: usize,
     },
     // Behind bytes of another shape.
+    // Kept: a state like the others, and no `Option`: with one every step would unwrap the line first and wrap what it makes of it.
     Other,
 }
 
@@ -73,10 +74,10 @@ fn in_first(number: Decimal, b: u8) -> Line
 }
 
 // The line behind the first field.
-fn first_read(parsed: Parsed) -> Line
+fn first_read(parsed: Option<u64>) -> Line
     ensures { result ≡ first_read parsed }
 {
-    let Parsed::Number(first) = parsed else {
+    let Some(first) = parsed else {
         return Line::Other;
     };
     Line::InSecond {
@@ -99,10 +100,10 @@ fn in_second(first: u64, number: Decimal, b: u8) -> Line
 }
 
 // The line behind the second field.
-fn second_read(first: u64, parsed: Parsed) -> Line
+fn second_read(first: u64, parsed: Option<u64>) -> Line
     ensures { result ≡ second_read first parsed }
 {
-    let Parsed::Number(second) = parsed else {
+    let Some(second) = parsed else {
         return Line::Other;
     };
     Line::InThird {
@@ -140,8 +141,5 @@ fn in_third(first: u64, second: u64, number: Decimal, length: usize, b: u8) -> L
 fn one_longer(length: usize) -> usize
     ensures { result ≡ counted «length» }
 {
-    if length < LENGTH_CAP {
-        return length + 1;
-    }
-    LENGTH_CAP
+    length.saturating_add(1).min(LENGTH_CAP)
 }

@@ -5,6 +5,7 @@ use mathlib.Core.Path.{◌≡◌, refl, sym, ◌∙◌, ap, subst}
 use mathlib.Core.List.{List, [], ◌∷◌}
 use mathlib.Core.Option.{Option, none, some}
 use lib.ListN.{get_or, set}
+use Rattle.std.specs.Prelude.{unwrap_or}
 use Rattle.calculus.specs.Letter.{Letter, byte, letter_of}
 use Rattle.calculus.specs.Term.{Term, size}
 use Rattle.calculus.specs.Parse.{Item, one, two, push}
@@ -43,18 +44,34 @@ second-stands {cells} {last} {base} {top} {u = u} n q e first f second =
     let same : last ≡ top - 1 - n = omega (arith, stands-size first) in
     subst (λ (k : ℕ). Stands cells top k u) same (stands-kept (omega arith) (λ i b. refl) second)
 
+-- a letter of one part is R
+pub one-is-R : (b : ℕ) → unwrap_or (arity_of b) 0 ≡ 1 → b ≡ byte Letter.R
+unfolding arity_of
+one-is-R b e = go (letter_of b) refl e
+  where
+    go : (o : Option Letter) → letter_of b ≡ o → unwrap_or (arity_of_letter o) 0 ≡ 1 → b ≡ byte Letter.R
+    go none q e = absurd (omega arith)
+    go (some Letter.J) q e = absurd (omega arith)
+    go (some Letter.R) q e = sym (byte-letter_of b Letter.R q)
+    go (some Letter.H) q e = absurd (omega arith)
+    go (some Letter.A) q e = absurd (omega arith)
+    go (some Letter.I) q e = absurd (omega arith)
+    go (some Letter.B) q e = absurd (omega arith)
+    go (some Letter.stop) q e = absurd (omega arith)
+    go (some (Letter.bell k)) q e = absurd (omega arith)
+
 -- R takes the topmost term
 takes-R : (b : ℕ) (is : List Item) → b ≡ byte Letter.R → pushed b is ≡ one b Term.R is
 takes-R b is e = ap (λ (o : Option Letter). push b o is) (ap letter_of e ∙ letter_of-byte Letter.R)
 
 -- a letter of two parts takes the two topmost terms
 takes_two :
-    (b : ℕ) → arity_of b ≡ 2 → (node : Term → Term → Term) × Two b node × ((is : List Item) → pushed b is ≡ two b node is)
+    (b : ℕ) → unwrap_or (arity_of b) 0 ≡ 2 → (node : Term → Term → Term) × Two b node × ((is : List Item) → pushed b is ≡ two b node is)
 unfolding arity_of
 takes_two b e = go (letter_of b) refl e
   where
     go :
-        (o : Option Letter) → letter_of b ≡ o → arity_of_letter o ≡ 2 →
+        (o : Option Letter) → letter_of b ≡ o → unwrap_or (arity_of_letter o) 0 ≡ 2 →
         (node : Term → Term → Term) × Two b node × ((is : List Item) → push b o is ≡ two b node is)
     go none q e = absurd (omega arith)
     go (some Letter.J) q e = absurd (omega arith)
@@ -127,7 +144,7 @@ module _ {cells : List ℕ} {top : ℕ} where
 
   -- ---- letters of two parts
 
-  module _ (b n : ℕ) {is : List Item} (sized : n ≡ size_in (get_or cells (top - 1) 0)) (e : arity_of b ≡ 2) (turn : Turn cells top b is) where
+  module _ (b n : ℕ) {is : List Item} (sized : n ≡ size_in (get_or cells (top - 1) 0)) (e : unwrap_or (arity_of b) 0 ≡ 2) (turn : Turn cells top b is) where
     -- the second part is found below the first, the two can be joined, and their node is the new topmost term
     both : (n < top) × Joinable cells top (top - 1) (top - 1 - n) × Stacked (set cells top (joined cells top b n)) (top + 1) (pushed b is)
     both =
@@ -171,27 +188,27 @@ module _ {cells : List ℕ} {top : ℕ} where
 
   -- the cell of a letter without parts
   pub leaf-stacked :
-      (b v : ℕ) {is : List Item} → b < 256 → ¬ (b ≡ byte Letter.R) → ¬ (arity_of b ≡ 2) → Turn cells top b is → v ≡ packed b 0 0 1 →
+      (b v : ℕ) {is : List Item} → b < 256 → ¬ (unwrap_or (arity_of b) 0 ≡ 1) → ¬ (unwrap_or (arity_of b) 0 ≡ 2) → Turn cells top b is → v ≡ packed b 0 0 1 →
       Stacked (set cells top v) (top + 1) (pushed b is)
   unfolding arity_of
-  leaf-stacked b v {is} short r two turn written = go (letter_of b) refl two turn.takes
+  leaf-stacked b v {is} short one two turn written = go (letter_of b) refl one two turn.takes
     where
       made : (l : Letter) → letter_of b ≡ some l → Cell (set cells top v) (top + 1) top (byte l) 0 0 1
       made l q =
           rw (written, byte-letter_of b l q) (cell_set cells top turn.room b 0 0 1 short (omega arith) (omega arith))
 
       go :
-          (o : Option Letter) → letter_of b ≡ o → ¬ (arity_of_letter o ≡ 2) → AllWhole (push b o is) →
+          (o : Option Letter) → letter_of b ≡ o → ¬ (unwrap_or (arity_of_letter o) 0 ≡ 1) → ¬ (unwrap_or (arity_of_letter o) 0 ≡ 2) → AllWhole (push b o is) →
           Stacked (set cells top v) (top + 1) (push b o is)
-      go none q n w = absurd w
-      go (some Letter.J) q n w = above v (omega arith) (Stands.J (made Letter.J q)) (omega arith) turn.stacked
-      go (some Letter.R) q n w = absurd (r (sym (byte-letter_of b Letter.R q)))
-      go (some Letter.H) q n w = absurd (n refl)
-      go (some Letter.A) q n w = absurd (n refl)
-      go (some Letter.I) q n w = above v (omega arith) (Stands.I (made Letter.I q)) (omega arith) turn.stacked
-      go (some Letter.B) q n w = absurd (n refl)
-      go (some Letter.stop) q n w = absurd (n refl)
-      go (some (Letter.bell k)) q n w = above v (omega arith) (Stands.bell (made (Letter.bell k) q)) (omega arith) turn.stacked
+      go none q m n w = absurd w
+      go (some Letter.J) q m n w = above v (omega arith) (Stands.J (made Letter.J q)) (omega arith) turn.stacked
+      go (some Letter.R) q m n w = absurd (m refl)
+      go (some Letter.H) q m n w = absurd (n refl)
+      go (some Letter.A) q m n w = absurd (n refl)
+      go (some Letter.I) q m n w = above v (omega arith) (Stands.I (made Letter.I q)) (omega arith) turn.stacked
+      go (some Letter.B) q m n w = absurd (n refl)
+      go (some Letter.stop) q m n w = absurd (n refl)
+      go (some (Letter.bell k)) q m n w = above v (omega arith) (Stands.bell (made (Letter.bell k) q)) (omega arith) turn.stacked
 
 -- one term in the arena is all of it
 pub single-stands :

@@ -1,16 +1,14 @@
 -- Of a term's text every end is read into terms only. Assumes nothing.
-use Prim.Native.Nat.{ℕ, zero, suc, ◌-◌, ◌≤◌, ◌<◌}
-use native.Mathlib.Omega.{arith}
-use mathlib.Core.Path.{◌≡◌, sym, ◌∙◌, ap, subst}
+use Prim.Native.Nat.{ℕ, zero, suc}
+use mathlib.Core.Path.{◌≡◌, sym, ◌∙◌, ap}
 use mathlib.Core.List.{List, [], ◌∷◌, append-nil}
 use mathlib.Core.Option.{Option, none, some}
-use lib.ListN.{length, get_or, drop}
-use lib.Seq.{drop-cons}
+use lib.ListN.{drop}
 use Rattle.calculus.specs.Letter.{Letter, letter_of}
 use Rattle.calculus.specs.Term.{Term, text}
 use Rattle.calculus.specs.Parse.{Item, one, two, push, items}
 use Rattle.calculus.proofs.PrefixCode.{items-text}
-use Rattle.loading.specs.Stack.{AllWhole, pushed}
+use Rattle.loading.specs.Stack.{AllWhole}
 
 -- what a letter that takes one finds is terms, where it leaves terms
 whole-one : (b : ℕ) (node : Term → Term) (is : List Item) → AllWhole (one b node is) → AllWhole is
@@ -39,7 +37,7 @@ whole-push b (some Letter.stop) is w = whole-two b Term.app is w
 whole-push b (some (Letter.bell k)) is w = w
 
 -- bytes that are read into terms only have ends that are
-whole_drop : (n : ℕ) (s : List ℕ) → AllWhole (items s) → AllWhole (items (drop n s))
+pub whole_drop : (n : ℕ) (s : List ℕ) → AllWhole (items s) → AllWhole (items (drop n s))
 whole_drop zero s w = w
 whole_drop (suc n) [] w = w
 whole_drop (suc n) (b ∷ s) w = whole_drop n s (whole-push b (letter_of b) (items s) w)
@@ -47,14 +45,3 @@ whole_drop (suc n) (b ∷ s) w = whole_drop n s (whole-push b (letter_of b) (ite
 -- the bytes of a term's text are read into that term
 pub items-whole : (s : List ℕ) (t : Term) → s ≡ text t → items s ≡ Item.whole t ∷ []
 items-whole s t e = ap items (e ∙ sym (append-nil (text t))) ∙ items-text t []
-
-module _ (s : List ℕ) (at : ℕ) (some_left : 0 < at) (inside : at ≤ length s) where
-  -- the items from a byte on: that byte in front of those behind it
-  pub items_at : items (drop (at - 1) s) ≡ pushed (get_or s (at - 1) 0) (items (drop at s))
-  items_at =
-      let next : suc (at - 1) ≡ at = omega arith in
-      ap items (drop-cons s (at - 1) 0 (omega arith)) ∙ ap (λ (n : ℕ). pushed (get_or s (at - 1) 0) (items (drop n s))) next
-
-  -- every byte of a term's text is a letter that finds its parts
-  pub takes_at : (t : Term) → s ≡ text t → AllWhole (pushed (get_or s (at - 1) 0) (items (drop at s)))
-  takes_at t e = subst AllWhole items_at (whole_drop (at - 1) s (subst AllWhole (sym (items-whole s t e)) tt))

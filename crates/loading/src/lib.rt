@@ -10,7 +10,6 @@ ghost use Rattle.cells.specs.Stands.{Stands};
 ghost use Rattle.loading.specs.Loading.{Loadable};
 ghost use Rattle.loading.specs.Stack.{Stacked, pushed, Turn};
 
-use calculus::letters;
 use cells::{node, packed, size_in};
 
 // Writes the cell of one letter more at the top. Its parts are the topmost terms of those that stand there.
@@ -21,17 +20,17 @@ fn load_letter(cells: &mut [u64], top: usize, letter: u8)
         → Stacked cells.new (top + 1) (pushed letter terms) }
 {
     let first = top - 1;
-    if letter == letters::R {
-        let size = 1 + size_in(cells[first]);
-        cells[top] = packed(letter, first, 0, size);
-        return;
+    match reading::arity(letter).unwrap_or(0) {
+        2 => {
+            let second = first - size_in(cells[first]);
+            node(cells, top, letter, first, second);
+        }
+        1 => {
+            let size = 1 + size_in(cells[first]);
+            cells[top] = packed(letter, first, 0, size);
+        }
+        _ => cells[top] = packed(letter, 0, 0, 1),
     }
-    if reading::arity(letter) == 2 {
-        let second = first - size_in(cells[first]);
-        node(cells, top, letter, first, second);
-        return;
-    }
-    cells[top] = packed(letter, 0, 0, 1);
 }
 
 // Loads the text of a term into the arena, from cell 1 on; the last cell written, whose index is the text's length, stands for the term.
@@ -41,11 +40,9 @@ pub fn load(s: &[u8], cells: &mut [u64])
     ensures loaded { (t : Term) → s.now ≡ text t
         → Stands cells.new (length s.now + 1) (length s.now) t }
 {
-    let mut at = s.len();
     let mut top = 1;
-    while 0 < at {
-        at -= 1;
-        load_letter(cells, top, s[at]);
+    for b in s.iter().rev() {
+        load_letter(cells, top, *b);
         top += 1;
     }
 }

@@ -2,16 +2,16 @@
 use Prim.Native.Nat.{ℕ, ◌+◌, ◌-◌, ◌≤◌, ◌<◌}
 use native.Mathlib.Omega.{arith}
 use mathlib.Core.Path.{◌≡◌, refl, ◌∙◌, subst}
-use mathlib.Core.Bool.{Bool, true, false, cond}
+use mathlib.Core.Bool.{true, cond}
 use mathlib.Core.List.{List}
 use lib.ListN.{length}
 use Rattle.turning.specs.Turning.{Runs, to_go_in, Turnable, Turned}
 use Rattle.machine.specs.Advancing.{fillable, Startable, Stopped}
 use Rattle.turning.specs.declared.State.{State}
 
--- the machine has come from its first state to this one; where there is another turn, a part is left and the arena has room for the turn
+-- the machine has come from its first state to this one; where there is another turn, a part is left
 pub record Going
-    (room : ℕ) (cells₀ area₀ counts₀ : List ℕ) (st₀ : State) (limit : ℕ) (cells area counts : List ℕ) (st : State) (on : Bool)
+    (room : ℕ) (cells₀ area₀ counts₀ : List ℕ) (st₀ : State) (limit : ℕ) (cells area counts : List ℕ) (st : State)
     : Type 0 where
   pub begun : Startable room cells₀ area₀ counts₀ st₀
   pub limited : limit ≡ fillable cells₀ - 3
@@ -20,7 +20,7 @@ pub record Going
   pub same-counts : length counts ≡ length counts₀
   pub runs : (p : Turnable room cells₀ area₀ counts₀ st₀) → Runs room p.first p.used p.most cells area counts st
   pub filled : st.place.top ≤ fillable cells₀
-  pub onward : on ≡ true → (st.place.left ≡ true) × (st.go ≡ true) × (st.place.top < limit)
+  pub onward : st.go ≡ true → st.place.left ≡ true
 
 -- what falls with each turn, by the lengths of the arena and of the area
 abbrev to_go_of : (cells area : ℕ) (st : State) → ℕ
@@ -29,7 +29,7 @@ to_go_of cells area st = st.steps + (cells - st.place.top) + (area - st.place.wr
 -- before the first turn
 pub going_start :
     (room : ℕ) (cells area counts : List ℕ) (st : State) → Startable room cells area counts st →
-    Going room cells area counts st (fillable cells - 3) cells area counts st true
+    Going room cells area counts st (fillable cells - 3) cells area counts st
 going_start room cells area counts st start =
     record {
       begun = start;
@@ -39,16 +39,16 @@ going_start room cells area counts st start =
       same-counts = refl;
       runs = λ p. p.runs;
       filled = omega (arith, start.low);
-      onward = λ e. (start.turnable.left, start.turnable.goes, omega (arith, start.low, start.many));
+      onward = λ e. start.turnable.left;
     }
 
 module _
-    {room : ℕ} {cells₀ area₀ counts₀ : List ℕ} {st₀ : State} {limit : ℕ} {cells area counts : List ℕ} {st : State} {on : Bool}
-    (going : Going room cells₀ area₀ counts₀ st₀ limit cells area counts st on)
+    {room : ℕ} {cells₀ area₀ counts₀ : List ℕ} {st₀ : State} {limit : ℕ} {cells area counts : List ℕ} {st : State}
+    (going : Going room cells₀ area₀ counts₀ st₀ limit cells area counts st)
   where
     -- ---- a turn
 
-    module _ (more : on ≡ true) where
+    module _ (goes : st.go ≡ true) (low : st.place.top < limit) where
       -- it can be made
       abbrev pub going-turnable : Turnable room cells₀ area₀ counts₀ st₀ → Turnable room cells area counts st
       going-turnable p =
@@ -65,9 +65,9 @@ module _
                   few = omega (arith, p.bounds.few, going.same_cells);
                   fuelled = p.bounds.fuelled;
                 };
-            free = omega (arith, going.onward more, going.limited, going.begun.many, going.same_cells);
-            left = (going.onward more).0;
-            goes = (going.onward more).1;
+            free = omega (arith, low, going.limited, going.begun.many, going.same_cells);
+            left = going.onward goes;
+            goes = goes;
           }
 
       module _
@@ -88,11 +88,9 @@ module _
               subst (λ (n : ℕ). to_go_of n (length area₀) st' < to_go_of n (length area₀) st) going.same_cells
               (subst (λ (n : ℕ). to_go_of (length cells) n st' < to_go_of (length cells) n st) going.same_area turned.falls)
 
-          -- on, where the turn says so and the arena has room; else no further
-          going_on :
-              (on' : Bool) → (on' ≡ true → (st'.go ≡ true) × (st'.place.top < limit)) →
-              Going room cells₀ area₀ counts₀ st₀ limit cells' area' counts' st' on'
-          going_on on' again =
+          -- and the machine has come to the next state
+          pub going_next : Going room cells₀ area₀ counts₀ st₀ limit cells' area' counts' st'
+          going_next =
               record {
                 begun = going.begun;
                 limited = going.limited;
@@ -100,17 +98,9 @@ module _
                 same_area = wide ∙ going.same_area;
                 same-counts = kept ∙ going.same-counts;
                 runs = λ p. (turns (going-turnable p)).runs;
-                filled = omega (arith, turned.few-more, going.onward more, going.limited);
-                onward = λ e. (turned.goes (again e).0, (again e).0, (again e).1);
+                filled = omega (arith, turned.few-more, low, going.limited);
+                onward = turned.goes;
               }
-
-          -- where the arena has room, the turn says whether there is another
-          pub going_next : st'.place.top < limit → Going room cells₀ area₀ counts₀ st₀ limit cells' area' counts' st' st'.go
-          going_next room = going_on st'.go (λ e. (e, room))
-
-          -- where it is as full as it may be, there is none
-          pub going-full : Going room cells₀ area₀ counts₀ st₀ limit cells' area' counts' st' false
-          going-full = going_on false (λ e. let z : ◌≡◌ {A = ℕ} 0 1 = cc e in absurd (omega arith))
 
     -- ---- the end
 

@@ -1,7 +1,7 @@
 // The machine: up to so many steps of a term, made in an arena. The term is loaded, turned, and written back.
 #![tactic(auto)]
 
-ghost use Rattle.std.specs.Prelude.{◌≡◌, ◌≤◌, min, true};
+ghost use Rattle.std.specs.Prelude.{◌≡◌, ◌≤◌, true};
 ghost use Rattle.cells.specs.Cell.{cell_limit};
 ghost use Rattle.turning.specs.Turning.{Turnable};
 ghost use Rattle.machine.specs.Advancing.{made_of, Runnable, Usable, Advanced, Startable, Stopped};
@@ -15,6 +15,7 @@ use turning::{State, turn};
 const CELLS_LEAST: usize = 256;
 
 // How many steps were made, the size of the term reached, and whether the machine stopped with a part of it before it.
+// Kept: `left` is a field, since steps and size count either way.
 #[derive(Clone, Copy)]
 pub struct Made {
     pub steps: u64,
@@ -30,40 +31,17 @@ fn turns(cells: &mut [u64], area: &mut [u8], counts: &mut [u32], room: usize, fi
 {
     let limit = cells.len() / 8 * 5 - 3;
     let mut st = first;
-    let mut on = true;
-    while on {
-        let next = turn(cells, area, counts, room, st);
-        st = next;
-        let top = next.place.top;
-        on = next.go;
-        if limit <= top {
-            on = false;
-        }
+    while st.go && st.place.top < limit {
+        st = turn(cells, area, counts, room, st);
     }
     st
-}
-
-// The smaller of two.
-fn least(a: usize, b: usize) -> usize
-    ensures { result ≡ min a b }
-{
-    if a < b {
-        return a;
-    }
-    b
 }
 
 // Whether an arena of that many cells will do for a term of `len` letters with that much room.
 fn is_usable(cells: usize, room: usize, len: usize) -> bool
     ensures { result ≡ true → (len ≤ room) × (256 ≤ cells) × (cells ≤ cell_limit) }
 {
-    if room < len {
-        return false;
-    }
-    if cells < CELLS_LEAST {
-        return false;
-    }
-    cells <= CELL_LIMIT
+    len <= room && CELLS_LEAST <= cells && cells <= CELL_LIMIT
 }
 
 // How many steps were made of `most`, and the size of the term reached.
@@ -121,7 +99,7 @@ pub fn run(cells: &mut [u64], area: &mut [u8], len: usize, counts: &mut [u32], m
     ensures { (p : Runnable area.old len counts.old most)
         → Advanced area.old p.term p.used most area.new counts.new result }
 {
-    let room = least(area.len(), cells.len() / 4);
+    let room = area.len().min(cells.len() / 4);
     if !is_usable(cells.len(), room, len) {
         return Made {
             steps: 0,

@@ -1,11 +1,9 @@
--- The number and the word of each case of matching's answer (REQUIREMENTS, Matching). A refusal is checking's own.
-use Rattle.std.specs.Prelude.{Bool, true, false}
+-- What matching answers (REQUIREMENTS, Matching): whether the claims match. A refusal is checking's own.
+use Rattle.std.specs.Prelude.{Bool, Result, Ok, Err}
 use Rattle.reading.specs.Reply.{Reply, passed_on}
-use Rattle.checking.specs.Answer as checking
-use Rattle.matching.specs.declared.Matching.{Matching}
-use Rattle.matching.specs.declared.Matching.TheVariants.{Refused, Match, NoMatch}
+use Rattle.checking.specs.Answer.{refusal_of}
+use Rattle.checking.specs.declared.Refused.{Refused}
 
-abbrev pub answer_of : Matching → Reply Bool
-answer_of (Refused found) = passed_on (checking.answer_of found)
-answer_of Match = Reply.answered true
-answer_of NoMatch = Reply.answered false
+abbrev pub answer_of : Result Bool Refused → Reply Bool
+answer_of (Ok same) = Reply.answered same
+answer_of (Err refused) = passed_on (refusal_of refused)

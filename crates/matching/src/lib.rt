@@ -2,80 +2,27 @@
 #![tactic(auto)]
 
 ghost use Rattle.std.specs.Prelude.{◌≡◌};
-ghost use Rattle.reading.specs.Reply.{number_in, place_in};
-ghost use Rattle.slices.specs.Same.{same};
-ghost use Rattle.fields.specs.Texts.{text_at};
-ghost use Rattle.fields.specs.Fields.{texts_at};
+ghost use Rattle.fields.specs.Fields.{texts_now};
 ghost use Rattle.matching.specs.Matching.{same_texts, matching_of};
 ghost use Rattle.matching.specs.Answer.{answer_of};
 
-use checking::Checking;
-use fields::Judged;
-use fields::texts::Span;
+use checking::{Refused, check_claim};
+use fields::Texts;
 
-// What matching answers; specs/Answer.antt gives the number and the word of each case.
-#[derive(Clone, Copy)]
-pub enum Matching {
-    // What checking refuses of the first file, or else of the second, unaltered.
-    Refused(Checking),
-    // The contexts and the types of the last lines are equal byte for byte.
-    Match,
-    // They are not.
-    NoMatch,
-}
-
-// The number of a refusal, 0 of a verdict.
-pub fn number(answer: Matching) -> u64
-    ensures { result ≡ number_in (answer_of answer) }
-{
-    match answer {
-        Matching::Refused(found) => checking::number(found),
-        Matching::Match => 0,
-        Matching::NoMatch => 0,
-    }
-}
-
-// The line of a refusal, 0 of a verdict.
-pub fn place(answer: Matching) -> usize
-    ensures { result ≡ place_in (answer_of answer) }
-{
-    match answer {
-        Matching::Refused(found) => checking::place(found),
-        Matching::Match => 0,
-        Matching::NoMatch => 0,
-    }
-}
-
-// Whether the last lines of two derivation files claim the same context and type.
-pub fn match_claims(first: &[u8], second: &[u8]) -> Matching
+// Whether the last lines of two derivation files claim the same context and type: equal byte for byte. What checking refuses of the first
+// file, or else of the second, is refused unaltered.
+#[tactic(auto, using(crate::proofs::Verdict::first_refused, crate::proofs::Verdict::second_refused, crate::proofs::Verdict::both_answered))]
+pub fn match_claims(first: &[u8], second: &[u8]) -> Result<bool, Refused>
     ensures { answer_of result ≡ matching_of first.now second.now }
 {
-    let one = checking::check_claim(first);
-    let found = one.answer;
-    let Checking::Accepted(_) = found else {
-        return Matching::Refused(found);
-    };
-    let two = checking::check_claim(second);
-    let other = two.answer;
-    let Checking::Accepted(_) = other else {
-        return Matching::Refused(other);
-    };
-    if same_claim(first, one.claim, second, two.claim) {
-        return Matching::Match;
-    }
-    Matching::NoMatch
+    let one = check_claim(first)?;
+    let two = check_claim(second)?;
+    Ok(same_claim(one.claim, two.claim))
 }
 
-// Whether the contexts and the types that stand there are the same.
-fn same_claim(first: &[u8], one: Judged, second: &[u8], two: Judged) -> bool
-    ensures { result ≡ same_texts (texts_at one first.now) (texts_at two second.now) }
+// Whether the contexts and the types are the same.
+fn same_claim(one: Texts, two: Texts) -> bool
+    ensures { result ≡ same_texts (texts_now one.entry) (texts_now two.entry) }
 {
-    is_same(first, one.context, second, two.context) && is_same(first, one.ty, second, two.ty)
-}
-
-// Whether the text at a place of one file is that at a place of another.
-fn is_same(first: &[u8], a: Span, second: &[u8], b: Span) -> bool
-    ensures { result ≡ same (text_at a first.now) (text_at b second.now) }
-{
-    slices::same_part(first, a.from, a.to, second, b.from, b.to)
+    one.context == two.context && one.ty == two.ty
 }

@@ -1,3 +1,2 @@
 pub mod Mixing
-pub mod Failing
 pub mod Programs

@@ -1,5 +1,5 @@
 -- Bars: the largest count has a whole one, none has more, and a count has no mark exactly if it is 0. Assumes nothing.
-use Prim.Native.Nat.{ℕ, zero, suc, ◌+◌, ◌-◌, ◌*◌, ◌/◌, ◌≤◌}
+use Prim.Native.Nat.{ℕ, zero, suc, ◌+◌, ◌*◌, ◌≤◌}
 use native.Mathlib.Nat.{div-eq_of_lt, div-lt_iff_lt-mul, mul-add-div}
 use native.Mathlib.Omega.{arith}
 use mathlib.Core.Path.{◌≡◌, refl, ◌∙◌, ap}
@@ -27,13 +27,7 @@ bar-none count (suc less) h = (
   λ e. div-eq_of_lt (omega arith),
 )
 
--- ---- for `bar_width` and `append_row`
-
-pub width_is : (count largest : ℕ) → ¬ (largest ≡ 0) → (count * 40 + (largest - 1)) / largest ≡ bar_width count largest
-width_is count zero h = absurd (h refl)
-width_is count (suc less) h =
-    let one_less : suc less - 1 ≡ less = omega arith in
-    ap (λ (k : ℕ). (count * 40 + k) / suc less) one_less
+-- ---- for `append_row`
 
 -- so many of the forty marks
 pub bar-cut :

@@ -1,7 +1,7 @@
 // The lines that show how often each rule was used: rule, count and a bar, scaled to the largest count.
 #![tactic(auto)]
 
-ghost use Rattle.std.specs.Prelude.{◌≡◌, max};
+ghost use Rattle.std.specs.Prelude.{◌≡◌};
 ghost use Rattle.slices.specs.Put.{put, behind};
 ghost use Rattle.mix_lines.specs.Mix.{bar_width, mix_row, largest_of, mix_rows};
 ghost use Rattle.mix_lines.specs.PutAll.{put_all};
@@ -13,10 +13,11 @@ fn bar_width(count: u32, largest: u32) -> usize
     if largest == 0 {
         return 0;
     }
-    ((count as u64 * 40 + (largest as u64 - 1)) / largest as u64) as usize
+    ((u64::from(count) * 40 + (u64::from(largest) - 1)) / u64::from(largest)) as usize
 }
 
 // Writes a rule's line to index `at` of `out` and answers the index behind it; changes nothing where it does not fit.
+#[tactic(auto, unfolding(slices::specs::Put::put, slices::specs::Put::behind))]
 fn append_row(rule: u64, count: u32, largest: u32, out: &mut [u8], at: usize) -> usize
     ensures { (out.new ≡ put at (mix_row largest rule count) out.old)
         × (result ≡ behind at (mix_row largest rule count) out.old) }
@@ -26,7 +27,8 @@ fn append_row(rule: u64, count: u32, largest: u32, out: &mut [u8], at: usize) ->
         0,
         bar_width(count, largest),
     );
-    let digits = numerals::decimal_length(rule) + numerals::decimal_length(count as u64);
+    let number = u64::from(count);
+    let digits = numerals::decimal_length(rule) + numerals::decimal_length(number);
     if out.len() < at {
         return at;
     }
@@ -34,18 +36,8 @@ fn append_row(rule: u64, count: u32, largest: u32, out: &mut [u8], at: usize) ->
         return at;
     }
     let a = columns::append_number(rule, slices::TAB, out, at);
-    let b = columns::append_number(count as u64, slices::TAB, out, a);
+    let b = columns::append_number(number, slices::TAB, out, a);
     columns::append_field(bar, slices::LINE_FEED, out, b)
-}
-
-// The larger of two numbers.
-fn larger(a: u32, b: u32) -> u32
-    ensures { result ≡ max a b }
-{
-    if a < b {
-        return b;
-    }
-    a
 }
 
 // The largest of some counts, 0 where there are none.
@@ -53,10 +45,8 @@ fn largest_of(counts: &[u32]) -> u32
     ensures { result ≡ largest_of counts.now }
 {
     let mut most = 0;
-    let mut i = 0;
-    while i < counts.len() {
-        most = larger(most, counts[i]);
-        i += 1;
+    for count in counts {
+        most = most.max(*count);
     }
     most
 }
@@ -67,10 +57,8 @@ pub fn append_rows(counts: &[u32], out: &mut [u8], at: usize) -> usize
 {
     let largest = largest_of(counts);
     let mut end = at;
-    let mut i = 0;
-    while i < counts.len() {
-        end = append_row(i as u64 + 1, counts[i], largest, out, end);
-        i += 1;
+    for (i, count) in counts.iter().enumerate() {
+        end = append_row(i as u64 + 1, *count, largest, out, end);
     }
     end
 }

@@ -12,6 +12,7 @@ pub fn decimal_length(n: u64) -> usize
 {
     let mut count = 1;
     let mut rest = n;
+    // Kept: a `while`, since what is left is divided in each turn; the digits are counted, and no index.
     while rest > 9 {
         rest /= 10;
         count += 1;
@@ -20,14 +21,12 @@ pub fn decimal_length(n: u64) -> usize
 }
 
 // Writes a number's digits to index `at` of `dst` and answers the index behind them; changes nothing where they do not fit.
+#[tactic(auto, using(crate::proofs::Writing::fitting))]
 pub fn append_decimal(n: u64, dst: &mut [u8], at: usize) -> usize
     ensures { (dst.new ≡ put at (decimal n) dst.old) × (result ≡ behind at (decimal n) dst.old) }
 {
     let count = decimal_length(n);
-    if dst.len() < at {
-        return at;
-    }
-    if dst.len() - at < count {
+    if dst.len().saturating_sub(at) < count {
         return at;
     }
     let end = at + count;
@@ -41,14 +40,11 @@ fn write_digits(n: u64, dst: &mut [u8], at: usize, end: usize)
     requires end_in_bounds { end ≤ length dst.old }
     ensures { dst.new ≡ put at (decimal n) dst.old }
 {
-    let mut i = end;
     let mut rest = n;
-    while rest > 9 {
-        i -= 1;
+    for i in (at..end).rev() {
         dst[i] = last_digit(rest);
         rest /= 10;
     }
-    dst[at] = last_digit(rest);
 }
 
 // A number's last digit.

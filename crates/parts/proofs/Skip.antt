@@ -9,6 +9,7 @@ use mathlib.Core.List.{List, [], ◌∷◌, ◌++◌, append_assoc}
 use mathlib.Core.Option.{Option, none, some}
 use lib.ListN.{length, get_or, drop, length-drop, drop_of_length-le}
 use lib.Seq.{drop-cons, drop-drop, drop_at}
+use Rattle.std.specs.Prelude.{unwrap_or}
 use Rattle.calculus.specs.Letter.{Letter, letter_of}
 use Rattle.calculus.specs.Term.{Term, text, size}
 use Rattle.calculus.proofs.PrefixCode.{letter_of-byte}
@@ -68,45 +69,30 @@ end-letter s at k h e =
     omega arith
 
 -- a byte takes as many terms as its arity says, and none where it is no letter
-pub none_taken : (b arity : ℕ) → arity ≡ arity_of b → arity ≡ 3 → 0 ≡ owed_behind (letter_of b) 0
+pub taken : (b : ℕ) → unwrap_or (arity_of b) 0 ≡ owed_behind (letter_of b) 0
 unfolding arity_of
-none_taken b arity p e = go (letter_of b) (sym p ∙ e)
+taken b = go (letter_of b)
   where
-    go : (o : Option Letter) → arity_of_letter o ≡ 3 → 0 ≡ owed_behind o 0
-    go none q = refl
-    go (some Letter.J) q = refl
-    go (some Letter.R) q = absurd (omega arith)
-    go (some Letter.H) q = absurd (omega arith)
-    go (some Letter.A) q = absurd (omega arith)
-    go (some Letter.I) q = refl
-    go (some Letter.B) q = absurd (omega arith)
-    go (some Letter.stop) q = absurd (omega arith)
-    go (some (Letter.bell k)) q = refl
+    go : (o : Option Letter) → unwrap_or (arity_of_letter o) 0 ≡ owed_behind o 0
+    go none = refl
+    go (some l) = refl
 
-pub some_taken : (b arity : ℕ) → arity ≡ arity_of b → ¬ (arity ≡ 3) → arity ≡ owed_behind (letter_of b) 0
-unfolding arity_of
-some_taken b arity p n = go (letter_of b) p
-  where
-    go : (o : Option Letter) → arity ≡ arity_of_letter o → arity ≡ owed_behind o 0
-    go none q = absurd (n q)
-    go (some l) q = q
-
--- the terms that a byte takes are skipped one by one
+-- of the n terms that a byte takes, those behind the first i are skipped one by one
 pub end-next :
-    (s : List ℕ) (at left : ℕ) → 0 < left → end_at s at + skip (left - 1) (drop (end_at s at) s) ≡ at + skip left (drop at s)
-end-next s at left h =
+    (s : List ℕ) (at n i : ℕ) → i < n → end_at s at + skip (n - (i + 1)) (drop (end_at s at) s) ≡ at + skip (n - i) (drop at s)
+end-next s at n i h =
     let here = drop at s in
-    let rest = left - 1 in
-    let more : 1 + rest ≡ left = omega arith in
-    let split : skip left here ≡ skip 1 here + skip rest (drop (skip 1 here) here) =
-    ap (λ (n : ℕ). skip n here) (sym more) ∙ skip_add here 1 rest in
+    let rest = n - (i + 1) in
+    let more : 1 + rest ≡ n - i = omega arith in
+    let split : skip (n - i) here ≡ skip 1 here + skip rest (drop (skip 1 here) here) =
+    ap (λ (k : ℕ). skip k here) (sym more) ∙ skip_add here 1 rest in
     omega (arith, ap (skip rest) (drop-drop (skip 1 here) at s))
 
--- and where none is left, the part ends
-pub end-last : (s : List ℕ) (at end left : ℕ) → left ≤ 0 → end + skip left (drop end s) ≡ end_at s at → end ≡ end_at s at
-end-last s at end left h e =
-    let none : left ≡ 0 = omega arith in
-    omega (arith, ap (λ (n : ℕ). skip n (drop end s)) none, skip-none (drop end s))
+-- and behind the last, the part ends
+pub end-last : (s : List ℕ) (at end n i : ℕ) → n ≤ i → end + skip (n - i) (drop end s) ≡ end_at s at → end ≡ end_at s at
+end-last s at end n i h e =
+    let none : n - i ≡ 0 = omega arith in
+    omega (arith, ap (λ (k : ℕ). skip k (drop end s)) none, skip-none (drop end s))
 
 -- ---- parts of parts
 

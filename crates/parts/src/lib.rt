@@ -1,21 +1,18 @@
 // Where the parts of a term end, in a table that is filled once and then looked up.
 #![tactic(auto)]
 
-ghost use Rattle.std.specs.Prelude.{◌≡◌, ◌≤◌, ◌<◌, length};
+ghost use Rattle.std.specs.Prelude.{◌≡◌, ◌≤◌, ◌<◌, length, get_or};
 ghost use Rattle.calculus.specs.Limits.{area_limit};
 ghost use Rattle.calculus.specs.Letter.{letter_of};
 ghost use Rattle.parts.specs.Skip.{owed_behind, end_at};
 ghost use Rattle.parts.specs.Ends.{listed, Stored};
 
 // How many parts the node of a byte has; none where the byte is no letter.
+#[tactic(auto, using(crate::proofs::Skip::taken))]
 fn parts_of(b: u8) -> usize
     ensures { result ≡ owed_behind (letter_of b) 0 }
 {
-    let parts = reading::arity(b);
-    if parts == reading::NO_LETTER {
-        return 0;
-    }
-    parts
+    reading::arity(b).unwrap_or(0)
 }
 
 // The index behind the part that begins at `at`, by the shape of the term; `at` itself past the end.
@@ -29,11 +26,9 @@ fn part_end(s: &&[u8], at: usize, ends: &mut &mut [u16]) -> usize
     if s.len() <= at {
         return at;
     }
-    let mut left = parts_of(s[at]);
     let mut end = at + 1;
-    while 0 < left {
+    for _ in 0..parts_of(s[at]) {
         end = part_end(s, end, ends);
-        left -= 1;
     }
     ends[at] = end as u16;
     end
@@ -57,20 +52,26 @@ pub fn store_ends(s: &[u8], at: usize, ends: &mut &mut [u16])
     part_end(&s, at, ends);
 }
 
-// A number of 16 bits.
-fn wide(x: u16) -> usize
-    ensures { (result ≡ x) × (result < 65536) }
-{
-    x as usize
+// The letters of a text, and a table of the ends of its parts.
+#[derive(Clone, Copy)]
+pub struct Text<'a> {
+    pub letters: &'a [u8],
+    pub ends: &'a [u16],
 }
 
-// The end that is stored under `at`, 0 past the table.
-pub fn end_of(ends: &[u16], at: usize) -> usize
-    ensures value { result ≡ listed ends.now at }
-    ensures bounded { result < 65536 }
-{
-    if ends.len() <= at {
-        return 0;
+impl<'a> Text<'a> {
+    // The letter at `at`, 0 past the end.
+    pub fn letter_at(self, at: usize) -> u8
+        ensures { result ≡ get_or self.entry.letters.now at 0 }
+    {
+        slices::byte_at(self.letters, at)
     }
-    wide(ends[at])
+
+    // The end that is stored under `at`, 0 past the table.
+    pub fn end_of(self, at: usize) -> usize
+        ensures value { result ≡ listed self.entry.ends.now at }
+        ensures bounded { result < 65536 }
+    {
+        usize::from(self.ends.get(at).copied().unwrap_or(0))
+    }
 }

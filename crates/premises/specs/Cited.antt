@@ -1,15 +1,16 @@
 -- What a premise field names, by where the earlier lines begin.
 -- REQUIREMENTS, Derivation files.
-use Rattle.std.specs.Prelude.{ℕ, zero, suc, ◌-◌, Bool, true, false, ◌&&◌, cond, List, leb, ltb, get_or}
+use Rattle.std.specs.Prelude.{ℕ, zero, suc, ◌-◌, Bool, true, false, ◌&&◌, cond, List, leb, ltb, get_or, Some, None}
+use Rattle.std.specs.Prelude as std
 use Rattle.std.proofs.Math.Option.{Option, none, some}
 use Rattle.derivation_files.specs.Line.{Premise}
 use Rattle.premises.specs.declared.Cited.{Cited}
 use Rattle.premises.specs.declared.Cited.TheVariants.{Dash, Line, Nothing}
 
--- the number, where there is one and it is at most the limit; else 0
-abbrev pub up_to : ℕ → Option ℕ → ℕ
-up_to limit none = 0
-up_to limit (some n) = cond (leb n limit) n 0
+-- the number, where there is one and it is from 1 up to the limit
+abbrev pub within : ℕ → Option ℕ → std.Option ℕ
+within limit none = None
+within limit (some n) = cond (ltb 0 n && leb n limit) (Some n) None
 
 abbrev pub line_if : Bool → ℕ → Cited
 line_if true start = Line start
@@ -36,9 +37,3 @@ abbrev pub cited_fit : (count : ℕ) (first second : Cited) → Bool
 cited_fit zero first second = is_dashed first && is_dashed second
 cited_fit (suc zero) first second = is_line first && is_dashed second
 cited_fit (suc (suc n)) first second = is_line first && is_line second
-
--- where the line begins that is named, or the other place
-abbrev pub start_or : ℕ → Cited → ℕ
-start_or other Dash = other
-start_or other (Line start) = start
-start_or other Nothing = other

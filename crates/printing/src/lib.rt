@@ -7,6 +7,7 @@ ghost use Rattle.printing.specs.Printed.{line_of, numbers_of, count_of};
 
 // Prints a word, a number and further bytes as one line at the start of `out` and answers how many bytes that are.
 // Where the line does not fit, nothing changes and the answer is 0.
+#[tactic(auto, unfolding(slices::specs::Put::put, slices::specs::Put::behind))]
 pub fn print_line(word: &[u8], number: u64, rest: &[u8], out: &mut [u8]) -> usize
     ensures { (out.new ≡ put 0 (line_of word.now number rest.now) out.old)
         × (result ≡ behind 0 (line_of word.now number rest.now) out.old) }
@@ -24,6 +25,7 @@ pub fn print_line(word: &[u8], number: u64, rest: &[u8], out: &mut [u8]) -> usiz
 }
 
 // Prints a word and two numbers, as `print_line` does.
+#[tactic(auto, unfolding(slices::specs::Put::put, slices::specs::Put::behind))]
 pub fn print_numbers(word: &[u8], first: u64, second: u64, out: &mut [u8]) -> usize
     ensures { (out.new ≡ put 0 (numbers_of word.now first second) out.old)
         × (result ≡ behind 0 (numbers_of word.now first second) out.old) }
@@ -38,6 +40,7 @@ pub fn print_numbers(word: &[u8], first: u64, second: u64, out: &mut [u8]) -> us
 }
 
 // Prints a word and a number, as `print_line` does.
+#[tactic(auto, unfolding(slices::specs::Put::put, slices::specs::Put::behind))]
 pub fn print_count(word: &[u8], count: u64, out: &mut [u8]) -> usize
     ensures { (out.new ≡ put 0 (count_of word.now count) out.old)
         × (result ≡ behind 0 (count_of word.now count) out.old) }

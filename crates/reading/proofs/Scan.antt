@@ -8,6 +8,7 @@ use mathlib.Core.Path.{◌≡◌, refl, sym, ◌∙◌, ap}
 use mathlib.Core.Bool.{Bool, true, false, false≢true}
 use mathlib.Core.List.{List, [], ◌∷◌}
 use mathlib.Core.Option.{Option, none, some}
+use Rattle.std.specs.Prelude.{Some, None}
 use borrow.Author.Tests.{ne_eqb}
 use lib.ListN.{length, get_or, drop, drop_of_length-le}
 use lib.Seq.{drop-cons}
@@ -18,6 +19,9 @@ use Rattle.calculus.proofs.PrefixCode.{letter_of-byte}
 use Rattle.reading.specs.Reply.{Reply}
 use Rattle.reading.specs.Reading.{at_letter, reading_from, reading_of}
 use Rattle.reading.specs.Arity.{arity_of_letter, arity_of}
+
+Some≢None : {n : ℕ} → Some n ≡ None → ⊥
+Some≢None e = let z : ◌≡◌ {A = ℕ} 0 1 = cc in omega arith
 
 -- the terms owed behind a letter are those owed before and those that it takes
 pub owed_sum : (l : Letter) (k : ℕ) → owed l k ≡ k + owed l 0
@@ -49,39 +53,38 @@ at_byte k at s h = ap (reading_from (suc k) at) (drop-cons s at 0 h)
 
 -- 5 at a byte that is no letter
 pub no_letter :
-    (owing at parts : ℕ) (s : List ℕ) →
-    at < length s →
-    (owing ≡ 0 → ⊥) → parts ≡ arity_of (get_or s at 0) → parts ≡ 3 → reading_from owing at (drop at s) ≡ Reply.refused 5 at
+    (owing at : ℕ) (s : List ℕ) →
+    at < length s → (owing ≡ 0 → ⊥) → None ≡ arity_of (get_or s at 0) → reading_from owing at (drop at s) ≡ Reply.refused 5 at
 unfolding arity_of
-no_letter zero at parts s h owes p e = absurd (owes refl)
-no_letter (suc k) at parts s h owes p e = at_byte k at s h ∙ go (letter_of (get_or s at 0)) (sym p ∙ e)
+no_letter zero at s h owes p = absurd (owes refl)
+no_letter (suc k) at s h owes p = at_byte k at s h ∙ go (letter_of (get_or s at 0)) p
   where
     go :
-        (o : Option Letter) → arity_of_letter o ≡ 3 →
+        (o : Option Letter) → None ≡ arity_of_letter o →
         at_letter o at (λ l. reading_from (owed l k) (suc at) (drop (suc at) s)) ≡ Reply.refused 5 at
     go none e = refl
-    go (some l) e = let f : owed l 0 < 3 = few l in absurd (omega arith)
+    go (some l) e = absurd (Some≢None (sym e))
 
 -- reading goes on behind a letter
 pub letter :
     (owing at parts : ℕ) (s : List ℕ) →
     at < length s →
     (owing ≡ 0 → ⊥) →
-    parts ≡ arity_of (get_or s at 0) →
-    (parts ≡ 3 → ⊥) →
+    Some parts ≡ arity_of (get_or s at 0) →
     reading_from (owing - 1 + parts) (at + 1) (drop (at + 1) s) ≡ reading_from owing at (drop at s)
 unfolding arity_of
-letter zero at parts s h owes p e = absurd (owes refl)
-letter (suc k) at parts s h owes p e =
-    rw (add-one, p) (sym (at_byte k at s h ∙ go (letter_of (get_or s at 0)) (λ q. e (p ∙ q))))
+letter zero at parts s h owes p = absurd (owes refl)
+letter (suc k) at parts s h owes p =
+    rw add-one (sym (at_byte k at s h ∙ go (letter_of (get_or s at 0)) p))
   where
     go :
         (o : Option Letter) →
-        (arity_of_letter o ≡ 3 → ⊥) →
-        at_letter o at (λ l. reading_from (owed l k) (suc at) (drop (suc at) s)) ≡ reading_from (suc k - 1 + arity_of_letter o) (suc at) (drop (suc at) s)
-    go none e = absurd (e refl)
+        Some parts ≡ arity_of_letter o →
+        at_letter o at (λ l. reading_from (owed l k) (suc at) (drop (suc at) s)) ≡ reading_from (suc k - 1 + parts) (suc at) (drop (suc at) s)
+    go none e = absurd (Some≢None e)
     go (some l) e =
-        let sum : owed l k ≡ suc k - 1 + owed l 0 = omega (arith, owed_sum l k) in
+        let takes : parts ≡ owed l 0 = cc in
+        let sum : owed l k ≡ suc k - 1 + parts = omega (arith, owed_sum l k, takes) in
         ap (λ (n : ℕ). reading_from n (suc at) (drop (suc at) s)) sum
 
 -- 7 where a byte follows a whole term
@@ -98,16 +101,16 @@ not_yet_whole zero at s h owes = absurd (owes refl)
 not_yet_whole (suc k) at s h owes = rw (drop_of_length-le s h)
 
 -- the count of a letter's byte
-pub arity-byte : (l : Letter) (b : ℕ) → b ≡ byte l → owed l 0 ≡ arity_of b
+pub arity-byte : (l : Letter) (b : ℕ) → b ≡ byte l → Some (owed l 0) ≡ arity_of b
 unfolding arity_of
 arity-byte l b e = sym (ap arity_of e ∙ ap arity_of_letter (letter_of-byte l))
 
 -- the count of a bell's letter
-pub arity-bell : (b : ℕ) → is_bell b ≡ true → 0 ≡ arity_of b
+pub arity-bell : (b : ℕ) → is_bell b ≡ true → Some 0 ≡ arity_of b
 arity-bell b e = let (k, same) = letter-bell b e in arity-byte (Letter.bell k) b same
 
--- a byte that is none of the letters' has the count 3
-pub arity-none : (b : ℕ) → ((l : Letter) → b ≡ byte l → ⊥) → 3 ≡ arity_of b
+-- a byte that is none of the letters' has no count
+pub arity-none : (b : ℕ) → ((l : Letter) → b ≡ byte l → ⊥) → None ≡ arity_of b
 unfolding arity_of letter_of
 arity-none b other = sym (ap arity_of_letter (missing alphabet))
   where
@@ -116,13 +119,13 @@ arity-none b other = sym (ap arity_of_letter (missing alphabet))
     missing (l ∷ ls) = ap (λ (t : Bool). chosen t l (find b ls)) (ne_eqb b (byte l) (other l)) ∙ missing ls
 
 -- no letter takes more than two terms
-pub arity-few : (b parts : ℕ) → parts ≡ arity_of b → (parts ≡ 3 → ⊥) → parts < 3
+pub arity-few : (b parts : ℕ) → Some parts ≡ arity_of b → parts < 3
 unfolding arity_of
-arity-few b parts p e = rw p (go (letter_of b) (λ q. e (p ∙ q)))
+arity-few b parts = go (letter_of b)
   where
-    go : (o : Option Letter) → (arity_of_letter o ≡ 3 → ⊥) → arity_of_letter o < 3
-    go none e = absurd (e refl)
-    go (some l) e = few l
+    go : (o : Option Letter) → Some parts ≡ arity_of_letter o → parts < 3
+    go none e = absurd (Some≢None e)
+    go (some l) e = let takes : parts ≡ owed l 0 = cc in omega (arith, few l, takes)
 
 -- an invariant that holds at the start
 pub start : (s : List ℕ) → reading_from 1 0 (drop 0 s) ≡ reading_of s

@@ -2,17 +2,13 @@
 use Prim.Native.Nat.{ℕ}
 use mathlib.Core.Path.{◌≡◌, sym, ◌∙◌, ap, ap₂}
 use mathlib.Core.Option.{Option}
-use mathlib.Core.List.{List, [], ◌∷◌}
-use types.Run.{OneOf, miss}
-use denote.Enum.Declared.{tag_of}
+use mathlib.Core.List.{List}
 use Rattle.calculus.specs.Term.{Term, text, size}
 use Rattle.calculus.proofs.PrefixCode.{term_of-text}
-use Rattle.reading.specs.Reply.{Reply, passed_on}
+use Rattle.reading.specs.Reply.{Reply, number_in, place_in, passed_on}
 use Rattle.reading.specs.Reading.{reading_of, or_refusal, term_read}
-use Rattle.reading.specs.Answer.{answer_of}
-use Rattle.reading.specs.declared.Reading.{Reading}
-use Rattle.reading.specs.declared.Reading.TheVariants.{Whole, NoLetter, NotWhole, Beyond}
-use Rattle.reading.specs.contracts.Reading.{the_type}
+use Rattle.reading.specs.Answer.{refusal_of}
+use Rattle.reading.specs.declared.Misread.{Misread}
 use Rattle.reading.proofs.Whole.{whole-term, refused_none}
 
 -- the term of a term's text is that term
@@ -34,11 +30,7 @@ pub refused-read :
 unfolding term_read
 refused-read bytes number place e = ap₂ or_refusal (refused_none bytes number place (sym e)) (sym e)
 
--- which every case is but the first
+-- so is what reading refuses
 pub unread :
-    (bytes : List ℕ) (r : Reading) → answer_of r ≡ reading_of bytes → OneOf (1 ∷ 2 ∷ 3 ∷ []) (tag_of the_type r) →
-    term_read bytes ≡ passed_on (answer_of r)
-unread bytes (Whole n) e k = absurd (miss (1 ∷ 2 ∷ 3 ∷ []) 0 tt k)
-unread bytes (NoLetter place) e k = refused-read bytes 5 place e
-unread bytes (NotWhole place) e k = refused-read bytes 6 place e
-unread bytes (Beyond place) e k = refused-read bytes 7 place e
+    (bytes : List ℕ) (e : Misread) → passed_on (refusal_of e) ≡ reading_of bytes → term_read bytes ≡ passed_on (refusal_of e)
+unread bytes e = refused-read bytes (number_in (refusal_of e)) (place_in (refusal_of e))

@@ -3,19 +3,29 @@
 
 ghost use Rattle.std.specs.Prelude.{◌≡◌};
 ghost use Rattle.calculus.specs.Bell.{is_bell};
-ghost use Rattle.reading.specs.Reply.{number_in, place_in};
+ghost use Rattle.reading.specs.Reply.{Reply, number_in, place_in};
 ghost use Rattle.reading.specs.Reading.{reading_of};
-ghost use Rattle.reading.specs.Answer.{answer_of};
+ghost use Rattle.reading.specs.Answer.{refusal_of, answer_of};
 ghost use Rattle.reading.specs.Arity.{arity_of};
 ghost use Rattle.reading.specs.Stop.{has_stop};
 
 use calculus::letters;
 
-// What reading answers; specs/Answer.antt gives the number and the value of each case.
+// What an operation refuses a call for: a number of the table of replies, and a place or line, 0 where the number has none of its own.
+pub trait Refusal {
+    // The reply that it is; nothing is answered.
+    ghost refusal: { Self → Reply ⊥ };
+
+    fn number(&self) -> u64
+        ensures { result ≡ number_in (refusal self.now) };
+
+    fn place(&self) -> usize
+        ensures { result ≡ place_in (refusal self.now) };
+}
+
+// What reading refuses, and the place; specs/Answer.antt gives the number of each case.
 #[derive(Clone, Copy)]
-pub enum Reading {
-    // The bytes are a term's text, of that size.
-    Whole(usize),
+pub enum Misread {
     // The byte at that place is not one of the letters.
     NoLetter(usize),
     // The bytes end at that place, and the term is not yet whole.
@@ -24,51 +34,44 @@ pub enum Reading {
     Beyond(usize),
 }
 
-// The number of a refusal, 0 of a size.
-pub fn number(answer: Reading) -> u64
-    ensures { result ≡ number_in (answer_of answer) }
-{
-    match answer {
-        Reading::Whole(_) => 0,
-        Reading::NoLetter(_) => 5,
-        Reading::NotWhole(_) => 6,
-        Reading::Beyond(_) => 7,
+impl Refusal for Misread {
+    ghost refusal = { refusal_of };
+
+    fn number(&self) -> u64 {
+        match *self {
+            Misread::NoLetter(_) => 5,
+            Misread::NotWhole(_) => 6,
+            Misread::Beyond(_) => 7,
+        }
+    }
+
+    fn place(&self) -> usize {
+        match *self {
+            Misread::NoLetter(place) => place,
+            Misread::NotWhole(place) => place,
+            Misread::Beyond(place) => place,
+        }
     }
 }
 
-// The place of a refusal, 0 of a size.
-pub fn place(answer: Reading) -> usize
-    ensures { result ≡ place_in (answer_of answer) }
-{
-    match answer {
-        Reading::Whole(_) => 0,
-        Reading::NoLetter(place) => place,
-        Reading::NotWhole(place) => place,
-        Reading::Beyond(place) => place,
-    }
-}
-
-// Reads a slice of any length.
-pub fn read(s: &[u8]) -> Reading
+// Reads a slice of any length, and answers the size of the term.
+pub fn read(s: &[u8]) -> Result<usize, Misread>
     ensures { answer_of result ≡ reading_of s.now }
 {
     let mut owed: usize = 1;
-    let mut at = 0;
-    while at < s.len() {
+    for (at, b) in s.iter().enumerate() {
         if owed == 0 {
-            return Reading::Beyond(at);
+            return Err(Misread::Beyond(at));
         }
-        let parts = arity(s[at]);
-        if parts == NO_LETTER {
-            return Reading::NoLetter(at);
-        }
+        let Some(parts) = arity(*b) else {
+            return Err(Misread::NoLetter(at));
+        };
         owed = owed - 1 + parts;
-        at += 1;
     }
     if owed == 0 {
-        Reading::Whole(at)
+        Ok(s.len())
     } else {
-        Reading::NotWhole(at)
+        Err(Misread::NotWhole(s.len()))
     }
 }
 
@@ -79,38 +82,35 @@ pub fn has_stop(s: &[u8]) -> bool
     slices::find(s, letters::STOP) < s.len()
 }
 
-// What stands in the place of an arity for a byte that is no letter.
-pub const NO_LETTER: usize = 3;
-
-// How many terms the letter of a byte takes.
-pub fn arity(b: u8) -> usize
+// How many terms the letter of a byte takes; none of a byte that is no letter.
+pub fn arity(b: u8) -> Option<usize>
     ensures { result ≡ arity_of b }
 {
     if b == letters::J {
-        return 0;
+        return Some(0);
     }
     if b == letters::I {
-        return 0;
+        return Some(0);
     }
     if b == letters::R {
-        return 1;
+        return Some(1);
     }
     if b == letters::H {
-        return 2;
+        return Some(2);
     }
     if b == letters::A {
-        return 2;
+        return Some(2);
     }
     if b == letters::B {
-        return 2;
+        return Some(2);
     }
     if b == letters::STOP {
-        return 2;
+        return Some(2);
     }
     if is_bell(b) {
-        return 0;
+        return Some(0);
     }
-    NO_LETTER
+    None
 }
 
 // Whether the byte is the letter of a bell.

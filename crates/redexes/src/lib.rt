@@ -6,21 +6,20 @@ ghost use Rattle.parts.specs.Ends.{listed};
 ghost use Rattle.redexes.specs.Moves.{Move, Leads};
 
 use calculus::letters;
-use parts::end_of;
-use slices::byte_at;
+use parts::Text;
 
 // Where the search goes from the application at `p`; `p` itself where a rule applies.
-fn next_place(s: &[u8], ends: &[u16], p: usize) -> usize
-    requires { p ≤ length s.now }
-    ensures { Move (listed ends.now) s.now p result }
+fn next_place(text: Text, p: usize) -> usize
+    requires { p ≤ length text.letters.now }
+    ensures { Move (listed text.entry.ends.now) text.entry.letters.now p result }
 {
-    let head = byte_at(s, p + 1);
+    let head = text.letter_at(p + 1);
     if head == letters::STOP {
         return p + 1;
     }
     if head == letters::B {
-        let end = end_of(ends, p + 1);
-        if byte_at(s, end) == letters::STOP {
+        let end = text.end_of(p + 1);
+        if text.letter_at(end) == letters::STOP {
             return end;
         }
         return p;
@@ -28,18 +27,18 @@ fn next_place(s: &[u8], ends: &[u16], p: usize) -> usize
     p
 }
 
-// The index of the redex in the application at `first` of a term's text, whose ends stand in `ends`.
-pub fn redex(s: &[u8], ends: &[u16], first: usize) -> usize
-    ensures { Leads (listed ends.now) s.now first result }
+// The index of the redex in the application at `first` of a term's text.
+pub fn redex(text: Text, first: usize) -> usize
+    ensures { Leads (listed text.entry.ends.now) text.entry.letters.now first result }
 {
-    if s.len() <= first {
+    if text.letters.len() <= first {
         return first;
     }
     let mut p = first;
-    let mut q = next_place(s, ends, p);
+    let mut q = next_place(text, p);
     while p < q {
         p = q;
-        q = next_place(s, ends, p);
+        q = next_place(text, p);
     }
     p
 }

@@ -5,12 +5,11 @@ use native.Mathlib.Omega.{arith}
 use mathlib.Core.Path.{◌≡◌, sym, ◌∙◌, ap, subst}
 use mathlib.Core.List.{List, ◌++◌}
 use lib.ListN.{length, length-append}
+use Rattle.std.specs.Prelude.{Option, Some, None}
 use Rattle.calculus.specs.Letter.{Letter, byte}
 use Rattle.calculus.specs.Term.{Term, text, size}
 use Rattle.calculus.specs.Order.{Next, next}
 use Rattle.calculus.proofs.PrefixCode.{length-text}
-use Rattle.calculus.proofs.Order.{next-is-step}
-use Rattle.calculus.proofs.Ranges.{change_range}
 use Rattle.slices.specs.Find.{index_of}
 use Rattle.parts.specs.Skip.{end_at}
 use Rattle.parts.specs.Ends.{listed, Ends}
@@ -19,36 +18,47 @@ use Rattle.redexes.specs.Spot.{Redex}
 use Rattle.redexes.proofs.Moves.{spot-laid}
 use Rattle.redexes.proofs.Found.{first-none, search_found}
 use Rattle.rewriting.specs.declared.Rewrite.{Rewrite}
-use Rattle.rewriting.specs.Rewriting.{unchanged, rewrite_of}
-use Rattle.rewriting.proofs.Rules.{fires}
+use Rattle.rewriting.specs.Rewriting.{rewrite_of}
+use Rattle.rewriting.proofs.Rules.{Fires, FiresBy, fires}
 use Rattle.reducing.specs.Makes.{Makes, NextBy}
 
 -- the sizes of a front, a term and a back
 length_three : (x : List ℕ) (t : Term) (y : List ℕ) → length (x ++ (text t ++ y)) ≡ length x + size t + length y
 length_three x t y = omega (arith, length-append x (text t ++ y), length-append (text t) y, length-text t)
 
--- what the rule that applies to the redex makes of the text
-redex-makes :
-    {t : Term} {from p : ℕ} {end_of : ℕ → ℕ} → Ends end_of (text t) from (end_at (text t) from) → Redex t from p →
-    Makes t (rewrite_of end_of (text t) p)
-redex-makes {t} {from} {p} {end_of} right found =
-    let spot = found.spot in
-    let redex = Term.app spot.function spot.argument in
-    let inside : Ends end_of (text t) p (p + size redex) = λ i h k. right i (omega (arith, found.begins)) (omega (arith, found.ends)) in
-    let fired = fires end_of spot.function spot.argument (spot-laid spot) inside found.no_function found.no_argument in
-    let whole = spot.steps (rewrite_of end_of (text t) p).rule fired.value fired.step in
-    let long : size t ≡ p + size redex + length spot.back =
-    omega (arith, length-text t, ap length spot.spelt, length_three spot.front redex spot.back, spot.place) in
-    let sum : size whole.reduct ≡ p + size fired.value + length spot.back =
-    omega
-    (arith, length-text whole.reduct, ap length whole.spelt, length_three spot.front fired.value spot.back, spot.place) in
-    record {
-      reduct = whole.reduct;
-      step = whole.step;
-      spelt = fired.spelt ∙ sym whole.spelt;
-      grows = omega (arith, fired.grows);
-      exact = λ k. omega (arith, fired.exact k);
-    }
+module _ {t : Term} {from p : ℕ} (found : Redex t from p) where
+  -- what makes the step of the redex makes that of the whole
+  fired-makes : {w : Rewrite} → Fires found.spot.function found.spot.argument found.spot.front found.spot.back (text t) w → Makes t w
+  fired-makes {w} fired =
+      let spot = found.spot in
+      let redex = Term.app spot.function spot.argument in
+      let whole = spot.steps w.rule fired.value fired.step in
+      let long : size t ≡ p + size redex + length spot.back =
+      omega (arith, length-text t, ap length spot.spelt, length_three spot.front redex spot.back, spot.place) in
+      let sum : size whole.reduct ≡ p + size fired.value + length spot.back =
+      omega
+      (arith, length-text whole.reduct, ap length whole.spelt, length_three spot.front fired.value spot.back, spot.place) in
+      record {
+        reduct = whole.reduct;
+        step = whole.step;
+        spelt = fired.spelt ∙ sym whole.spelt;
+        grows = omega (arith, fired.grows);
+        exact = λ k. omega (arith, fired.exact k);
+      }
+
+  fired-next :
+      (w : Option Rewrite) → FiresBy found.spot.function found.spot.argument found.spot.front found.spot.back (text t) w → NextBy t w
+  fired-next None never = absurd never
+  fired-next (Some w) fired = fired-makes fired
+
+  -- what the rule that applies to the redex makes of the text
+  redex-makes : {end_of : ℕ → ℕ} → Ends end_of (text t) from (end_at (text t) from) → NextBy t (rewrite_of end_of (text t) p)
+  redex-makes {end_of} right =
+      let spot = found.spot in
+      let inside : Ends end_of (text t) p (p + size (Term.app spot.function spot.argument)) =
+      λ i h k. right i (omega (arith, found.begins)) (omega (arith, found.ends)) in
+      fired-next (rewrite_of end_of (text t) p)
+      (fires end_of spot.function spot.argument (spot-laid spot) inside found.no_function found.no_argument)
 
 module _ (t : Term) (s : List ℕ) (first : ℕ) (e : s ≡ text t) (at : first ≡ index_of (byte Letter.stop) s) where
   -- whether the first full stop stands at the end is the same of s and of the text
@@ -60,26 +70,14 @@ module _ (t : Term) (s : List ℕ) (first : ℕ) (e : s ≡ text t) (at : first 
 
   -- the rewrite at the index that the search ends at makes the next step
   pub looked-up-makes :
-      (p : ℕ) (ends : List ℕ) (w : Rewrite) → ¬ (first ≡ length s) → Ends (listed ends) s first (end_at s first) →
-      Leads (listed ends) s first p → w ≡ rewrite_of (listed ends) s p → Makes t w
+      (p : ℕ) (ends : List ℕ) (w : Option Rewrite) → ¬ (first ≡ length s) → Ends (listed ends) s first (end_at s first) →
+      Leads (listed ends) s first p → w ≡ rewrite_of (listed ends) s p → NextBy t w
   looked-up-makes p ends w some stored leads q =
       let right = subst (λ (l : List ℕ). Ends (listed ends) l first (end_at l first)) e stored in
       let led = subst (λ (l : List ℕ). Leads (listed ends) l first p) e leads in
       let found = search_found t first first_of (λ n. some (n ∙ sym text-length)) right led in
-      subst (Makes t) (sym (q ∙ ap (λ (l : List ℕ). rewrite_of (listed ends) l p) e)) (redex-makes right found)
+      subst (NextBy t) (sym (q ∙ ap (λ (l : List ℕ). rewrite_of (listed ends) l p) e)) (redex-makes found right)
 
   -- where there is no full stop, nothing comes next
-  pub nothing-next : (w : Rewrite) → first ≡ length s → w ≡ unchanged first → NextBy t w
-  nothing-next w none q = NextBy.nothing (first-none t (sym first_of ∙ none ∙ text-length)) (q ∙ ap unchanged (none ∙ text-length))
-
--- ---- what a caller learns of the rule
-
-pub next-none : {t : Term} {w : Rewrite} → NextBy t w → w.rule ≡ 0 → next t ≡ Next.stop
-next-none (NextBy.nothing e q) n = e
-next-none {t} {w} (NextBy.makes made) n =
-    let step = (next-is-step w.rule t made.reduct).0 made.step in
-    absurd (omega (arith, change_range step.change))
-
-pub next-made : {t : Term} {w : Rewrite} → NextBy t w → ¬ (w.rule ≡ 0) → Makes t w
-next-made (NextBy.nothing e q) n = absurd (n (ap (λ (x : Rewrite). x.rule) q))
-next-made (NextBy.makes made) n = made
+  pub nothing-next : first ≡ length s → next t ≡ Next.stop
+  nothing-next none = first-none t (sym first_of ∙ none ∙ text-length)

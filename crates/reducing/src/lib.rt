@@ -10,9 +10,9 @@ ghost use Rattle.parts.specs.Ends.{listed, Ends};
 ghost use Rattle.reducing.specs.Makes.{MakesFrom, NextBy};
 
 use calculus::letters;
-use parts::store_ends;
+use parts::{Text, store_ends};
 use redexes::redex;
-use rewriting::{Rewrite, rewrite_at, unchanged};
+use rewriting::{Rewrite, rewrite_at};
 use slices::find;
 
 // The lengths of the tables for few letters, for some and for many, each an eighth of the next; the last is the limit of areas.
@@ -23,48 +23,42 @@ const SOME: usize = 256;
 
 const MANY: usize = 2048;
 
-// The rewrite in the outermost application, which begins at `first`, by the ends of its parts. These are only read; `&mut` is how a slice
-// that lies behind a reference can be lent on.
-fn rewrite_by(s: &[u8], first: usize, ends: &mut [u16]) -> Rewrite
-    ensures { Ends (listed ends.old) s.now first (end_at s.now first)
-        → MakesFrom s.now first result }
+// The rewrite in the outermost application, which begins at `first`, by the ends of its parts.
+fn rewrite_by(text: Text, first: usize) -> Option<Rewrite>
+    ensures { Ends (listed text.entry.ends.now) text.entry.letters.now first (end_at text.entry.letters.now first)
+        → MakesFrom text.entry.letters.now first result }
 {
-    let p = redex(s, ends, first);
-    rewrite_at(s, ends, p)
+    let p = redex(text, first);
+    rewrite_at(text, p)
 }
 
-// The same, with these ends stored first in a table that is as long as the text or longer.
-fn rewrite_in(s: &[u8], first: usize, ends: &mut &mut [u16]) -> Rewrite
-    ensures { length s.now ≤ length ends.old.now → MakesFrom s.now first result }
+// The same, with these ends stored first, in a table of N ends; the text is no longer than that.
+fn rewrite_with<const N: usize>(s: &[u8], first: usize) -> Option<Rewrite>
+    requires { N ≤ area_limit }
+    ensures { length s.now ≤ N → MakesFrom s.now first result }
 {
-    store_ends(s, first, ends);
-    rewrite_by(s, first, *ends)
+    let mut table = [0u16; N];
+    let mut ends = &mut table[..];
+    store_ends(s, first, &mut ends);
+    rewrite_by(Text { letters: s, ends }, first)
 }
 
-// The rewrite that makes the next step of the term whose text is the whole slice; no rule where the term is normal.
-pub fn next_rewrite(s: &[u8]) -> Rewrite
+// The rewrite that makes the next step of the term whose text is the whole slice; `None` where the term is normal.
+pub fn next_rewrite(s: &[u8]) -> Option<Rewrite>
     ensures { (t : Term) → s.now ≡ text t → length s.now ≤ area_limit → NextBy t result }
 {
     let first = find(s, letters::STOP);
     if first == s.len() {
-        return unchanged(first);
+        return None;
     }
     if s.len() <= FEW {
-        let mut table = [0u16; FEW];
-        let mut ends = &mut table[..];
-        return rewrite_in(s, first, &mut ends);
+        return rewrite_with::<FEW>(s, first);
     }
     if s.len() <= SOME {
-        let mut table = [0u16; SOME];
-        let mut ends = &mut table[..];
-        return rewrite_in(s, first, &mut ends);
+        return rewrite_with::<SOME>(s, first);
     }
     if s.len() <= MANY {
-        let mut table = [0u16; MANY];
-        let mut ends = &mut table[..];
-        return rewrite_in(s, first, &mut ends);
+        return rewrite_with::<MANY>(s, first);
     }
-    let mut table = [0u16; calculus::AREA_LIMIT];
-    let mut ends = &mut table[..];
-    rewrite_in(s, first, &mut ends)
+    rewrite_with::<{ calculus::AREA_LIMIT }>(s, first)
 }

@@ -7,6 +7,7 @@ use mathlib.Core.Path.{◌≡◌, sym, ◌∙◌, ap, ap₂}
 use mathlib.Core.Bool.{Bool, true, false, cond}
 use mathlib.Core.List.{List, [], ◌∷◌, ◌++◌, append_assoc, append-nil}
 use mathlib.Core.Option.{some, none}
+use Rattle.std.specs.Prelude.{Some, None}
 use borrow.Author.Tests.{eq-eqb, ne_eqb}
 use lib.Dec.{eqb}
 use lib.ListN.{length, get_or, take, drop, length-append, length-drop, drop_of_length-le}
@@ -17,12 +18,11 @@ use Rattle.slices.specs.Put.{put}
 use Rattle.slices.specs.Wrote.{Wrote}
 use Rattle.slices.proofs.Finding.{index_within}
 use Rattle.slices.proofs.Appending.{Appends, wrote}
-use Rattle.slices.proofs.Wrote.{wrote_none, wrote_then, wrote-is-put}
+use Rattle.slices.proofs.Wrote.{wrote_then, wrote-is-put}
 use Rattle.books.specs.Piece.{open_mark, close_mark}
 use Rattle.book_names.specs.Key.{key_of}
 use Rattle.replacing.specs.Spelled.{spelled_from, held_by, spelled_in}
 use Rattle.replacing.specs.Leaves.{Leaves}
-use Rattle.replacing.specs.declared.Replacing.TheVariants.{Fits, TooLarge}
 
 -- ---- what the bytes spell
 
@@ -133,10 +133,6 @@ pub record Reached (whole rest area area' : List ℕ) (to : ℕ) : Type 0 where
   pub written : Wrote 0 to done area area'
   pub joined : done ++ rest ≡ whole
 
--- nothing yet
-pub reached-start : {whole rest : List ℕ} (area : List ℕ) → rest ≡ whole → Reached whole rest area area 0
-reached-start area e = record { done = []; written = wrote_none 0 area (omega arith); joined = e }
-
 module _ {whole rest first rest' area area' : List ℕ} {to : ℕ} (r : Reached whole rest area area' to) (b : Begins rest first rest') where
   behind-done : (r.done ++ first) ++ rest' ≡ whole
   behind-done = append_assoc r.done first rest' ∙ ap (λ (s : List ℕ). r.done ++ s) (sym b.parts) ∙ r.joined
@@ -148,7 +144,7 @@ module _ {whole rest first rest' area area' : List ℕ} {to : ℕ} (r : Reached 
       record { done = r.done ++ first; written = wrote_then r.written (wrote to first area' room a); joined = behind-done }
 
   -- where that has no room, the text has none
-  pub reached-full : length area' < to + length first → Leaves TooLarge whole area area'
+  pub reached-full : length area' < to + length first → Leaves None whole area area'
   reached-full short =
       let w = r.written in
       let size = ap length behind-done in
@@ -158,7 +154,7 @@ module _ {whole rest first rest' area area' : List ℕ} {to : ℕ} (r : Reached 
 
 -- all of it
 pub reached-end :
-    {whole rest area area' : List ℕ} {to : ℕ} → Reached whole rest area area' to → rest ≡ [] → Leaves (Fits to) whole area area'
+    {whole rest area area' : List ℕ} {to : ℕ} → Reached whole rest area area' to → rest ≡ [] → Leaves (Some to) whole area area'
 reached-end {whole} {rest} {area} r e =
     let w = r.written in
     let all : r.done ≡ whole = sym (append-nil r.done) ∙ ap (λ (s : List ℕ). r.done ++ s) (sym e) ∙ r.joined in

@@ -1,72 +1,55 @@
 // The text of a piece with each use replaced by the result that its name stands for.
 #![tactic(auto)]
 
-ghost use Rattle.std.specs.Prelude.{◌≡◌, get_or};
+ghost use Rattle.std.specs.Prelude.{◌≡◌};
 ghost use Rattle.replacing.specs.Spelled.{held_by, spelled_in};
 ghost use Rattle.replacing.specs.Leaves.{Leaves};
 
 use book_names::find_from;
 
-// Whether the text fits the area.
+// Where the results of earlier lines stand in the store: the numbers of the lines' names, and where each result ends, behind the 0 where
+// the first begins.
 #[derive(Clone, Copy)]
-pub enum Replacing {
-    // It does, and has so many bytes.
-    Fits(usize),
-    // It does not.
-    TooLarge,
+pub struct Shelf<'a> {
+    pub keys: &'a [u64],
+    pub ends: &'a [usize],
 }
 
-// The number at an index, 0 past the end.
-fn number_at(numbers: &[usize], at: usize) -> usize
-    ensures { result ≡ get_or numbers.now at 0 }
-{
-    if at < numbers.len() {
-        return numbers[at];
+impl Shelf<'_> {
+    // The result of the line whose name has that number.
+    fn held(self, key: u64, store: &[u8]) -> &[u8]
+        ensures { result.now ≡ held_by key self.entry.keys.now self.entry.ends.now store.now }
+    {
+        let i = book_names::index_of(self.keys, key);
+        let from = self.ends.get(i).copied().unwrap_or(0);
+        let to = self.ends.get(i + 1).copied().unwrap_or(0);
+        slices::cut(store, from, to)
     }
-    0
 }
 
-// The result of the name with that number, where names have these numbers and results end there in the store.
-fn held<'a>(key: u64, keys: &[u64], ends: &[usize], store: &'a [u8]) -> &'a [u8]
-    ensures { result.now ≡ held_by key keys.now ends.now store.now }
-{
-    let i = book_names::index_of(keys, key);
-    slices::cut(store, number_at(ends, i), number_at(ends, i + 1))
-}
-
-// Writes the text to the front of the area, as far as it fits.
-pub fn replace(
-    piece: &[u8],
-    keys: &[u64],
-    ends: &[usize],
-    store: &[u8],
-    area: &mut [u8],
-) -> Replacing
-    ensures { Leaves result (spelled_in keys.now ends.now store.now piece.now) area.old area.new }
+// Writes the text to the front of the area, and answers how many bytes it has; none where it does not fit.
+pub fn replace(piece: &[u8], shelf: Shelf<'_>, store: &[u8], area: &mut [u8]) -> Option<usize>
+    ensures { Leaves result (spelled_in shelf.entry.keys.now shelf.entry.ends.now store.now piece.now) area.old area.new }
 {
     let mut at = 0;
     let mut to = 0;
+    // Kept: a `while`, since a use is passed in one turn, and a letter in one.
     while at < piece.len() {
         if piece[at] == books::OPEN {
             let end = find_from(piece, books::CLOSE, at + 1);
-            let result = held(
-                book_names::key(slices::cut(piece, at + 1, end)),
-                keys,
-                ends,
-                store,
-            );
+            let result = shelf.held(book_names::key(slices::cut(piece, at + 1, end)), store);
             if area.len() - to < result.len() {
-                return Replacing::TooLarge;
+                return None;
             }
             to = filling::append(result, 0, result.len(), area, to);
             at = end + 1;
         } else {
             if area.len() <= to {
-                return Replacing::TooLarge;
+                return None;
             }
             to = filling::append_byte(piece[at], area, to);
             at += 1;
         }
     }
-    Replacing::Fits(to)
+    Some(to)
 }

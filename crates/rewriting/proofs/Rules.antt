@@ -3,9 +3,10 @@
 use Prim.Native.Nat.{ℕ, ◌+◌, ◌-◌, ◌≤◌, ◌<◌}
 use native.Mathlib.Omega.{arith}
 use mathlib.Core.Path.{◌≡◌, refl, sym, ◌∙◌, ap, ap₂, subst}
-use mathlib.Core.Option.{Option, some}
+use mathlib.Core.Option.{Option as Perhaps, some}
 use mathlib.Core.List.{List, [], ◌∷◌, ◌++◌, append_assoc, append-nil}
 use lib.ListN.{length, get_or, length-append}
+use Rattle.std.specs.Prelude.{Option, Some, None}
 use Rattle.calculus.specs.Letter.{Letter, byte}
 use Rattle.calculus.specs.Term.{Term, text, size}
 use Rattle.calculus.specs.Order.{Next, next}
@@ -37,6 +38,11 @@ pub record Fires (f a : Term) (front back s : List ℕ) (w : Rewrite) : Type 0 w
   pub spelt : rewritten w s ≡ front ++ (text value ++ back)
   pub grows : size value ≤ size (Term.app f a) + (w.again.to - w.again.from)
   pub exact : 0 < w.again.to - w.again.from → size value ≡ size (Term.app f a) + (w.again.to - w.again.from)
+
+-- the same, where there is a rewrite; there is one
+abbrev pub FiresBy : (f a : Term) (front back s : List ℕ) → Option Rewrite → Type 0
+FiresBy f a front back s None = ⊥
+FiresBy f a front back s (Some w) = Fires f a front back s w
 
 -- ---- rules 1 to 5 and 12
 
@@ -213,14 +219,14 @@ module _ {x front : List ℕ} {u s : Term} {back : List ℕ} {p mid end : ℕ} w
   closed-fires :
       {r t : Term} {third : ℕ} → third ≡ end + 1 + length (text r) →
       OnPieces x front (text u) (text s) (byte Letter.A) (text r) (text t) back p mid end →
-      Fires (Term.B u s) (Term.A r t) front back x (spread 9 p (byte Letter.A) (between p end) (between (end + 1) third) nothing)
+      Fires (Term.B u s) (Term.A r t) front back x (spread 9 p (Some (byte Letter.A)) (between p end) (between (end + 1) third) nothing)
   closed-fires {r} {t} {third} e on =
       record {
         value = Term.A (Term.app (Term.B u s) r) t;
         step = refl;
         spelt =
             pieced
-            (spread 9 p (byte Letter.A) (between p end) (between (end + 1) third) nothing)
+            (spread 9 p (Some (byte Letter.A)) (between p end) (between (end + 1) third) nothing)
             x
             (front-part on)
             (pair-part on)
@@ -253,7 +259,7 @@ module _ {x front : List ℕ} {u s : Term} {back : List ℕ} {p mid end : ℕ} w
   both-fires :
       {r t : Term} {third : ℕ} → third ≡ end + 1 + length (text r) →
       OnPieces x front (text u) (text s) (byte Letter.H) (text r) (text t) back p mid end →
-      Fires (Term.B u s) (Term.H r t) front back x (spread 8 (p + 1) 0 (between p end) (between (end + 1) third) (between p end))
+      Fires (Term.B u s) (Term.H r t) front back x (spread 8 (p + 1) None (between p end) (between (end + 1) third) (between p end))
   both-fires {r} {t} {third} e on =
       let more = pair-grows u s on in
       record {
@@ -261,7 +267,7 @@ module _ {x front : List ℕ} {u s : Term} {back : List ℕ} {p mid end : ℕ} w
         step = refl;
         spelt =
             pieced
-            (spread 8 (p + 1) 0 (between p end) (between (end + 1) third) (between p end))
+            (spread 8 (p + 1) None (between p end) (between (end + 1) third) (between p end))
             x
             (stop-part on)
             (pair-part on)
@@ -277,7 +283,7 @@ module _ {x front : List ℕ} {u s : Term} {back : List ℕ} {p mid end : ℕ} w
   paired-fires :
       {r t : Term} {third : ℕ} → third ≡ end + 1 + length (text r) →
       OnPieces x front (text u) (text s) (byte Letter.B) (text r) (text t) back p mid end →
-      Fires (Term.B u s) (Term.B r t) front back x (spread 11 p (byte Letter.B) (between p end) (between (end + 1) third) (between p end))
+      Fires (Term.B u s) (Term.B r t) front back x (spread 11 p (Some (byte Letter.B)) (between p end) (between (end + 1) third) (between p end))
   paired-fires {r} {t} {third} e on =
       let more = pair-grows u s on in
       record {
@@ -285,7 +291,7 @@ module _ {x front : List ℕ} {u s : Term} {back : List ℕ} {p mid end : ℕ} w
         step = refl;
         spelt =
             pieced
-            (spread 11 p (byte Letter.B) (between p end) (between (end + 1) third) (between p end))
+            (spread 11 p (Some (byte Letter.B)) (between p end) (between (end + 1) third) (between p end))
             x
             (front-part on)
             (pair-part on)
@@ -341,7 +347,7 @@ module _ (end_of : ℕ → ℕ) {x front : List ℕ} {u s : Term} {back : List �
   pair-fires :
       (a : Term) → Laid x front (Term.B u s) a back p → Ends end_of x p (p + size (Term.app (Term.B u s) a)) →
       ¬ (head_of a ≡ Letter.stop) →
-      Fires (Term.B u s) a front back x (on_pair (some (head_of a)) end_of x p (end_of (p + 2)) (end_of (end_of (p + 2))))
+      FiresBy (Term.B u s) a front back x (on_pair (some (head_of a)) end_of x p (end_of (p + 2)) (end_of (end_of (p + 2))))
   pair-fires Term.J laid right n = first-fires (on-pieces (byte Letter.J) [] [] refl laid right)
   pair-fires (Term.R t) laid right n = second-fires (on-pieces (byte Letter.R) (text t) [] (simp append-nil) laid right)
   pair-fires (Term.H r t) laid right n =
@@ -366,7 +372,7 @@ module _ (end_of : ℕ → ℕ) {x front : List ℕ} {u s : Term} {back : List �
       let ends = pair_ends laid right in
       let same : end_of (end_of (p + 2)) ≡ end_at x (p + 1) = omega (arith, function-end laid, length-text u, length-text s) in
       by_letter
-      (λ (o : Option Letter). on_pair o end_of x p (end_of (p + 2)) (end_of (end_of (p + 2))))
+      (λ (o : Perhaps Letter). on_pair o end_of x p (end_of (p + 2)) (end_of (end_of (p + 2))))
       (get_or x (end_of (end_of (p + 2))) 0)
       (head_of a)
       (argument-head laid (end_of (end_of (p + 2))) same)
@@ -377,14 +383,14 @@ module _ {x front back : List ℕ} {p : ℕ} where
   function-fires :
       (end_of : ℕ → ℕ) (f a : Term) → Laid x front f a back p → Ends end_of x p (p + size (Term.app f a)) →
       ¬ (byte (head_of f) ≡ byte Letter.stop) → (byte (head_of f) ≡ byte Letter.B → ¬ (head_of a ≡ Letter.stop)) →
-      Fires f a front back x (on_function (some (head_of f)) end_of x p)
+      FiresBy f a front back x (on_function (some (head_of f)) end_of x p)
   function-fires end_of Term.J a laid right n m = frozen-fires 1 refl laid
   function-fires end_of (Term.R t) a laid right n m = frozen-fires 2 refl laid
   function-fires end_of (Term.H r t) a laid right n m = frozen-fires 3 refl laid
   function-fires end_of (Term.A s t) a laid right n m = closure-fires end_of laid right
   function-fires end_of Term.I a laid right n m = identity-fires laid
   function-fires end_of (Term.B u s) a laid right n m =
-      subst (Fires (Term.B u s) a front back x) (pair-letter end_of laid right) (pair-fires end_of a laid right (m refl))
+      subst (FiresBy (Term.B u s) a front back x) (pair-letter end_of laid right) (pair-fires end_of a laid right (m refl))
   function-fires end_of (Term.app f b) a laid right n m = absurd (n refl)
   function-fires end_of (Term.bell k) a laid right n m = frozen-fires 12 refl laid
 
@@ -392,9 +398,9 @@ module _ {x front back : List ℕ} {p : ℕ} where
   pub fires :
       (end_of : ℕ → ℕ) (f a : Term) → Laid x front f a back p → Ends end_of x p (p + size (Term.app f a)) →
       ¬ (get_or x (p + 1) 0 ≡ byte Letter.stop) → (get_or x (p + 1) 0 ≡ byte Letter.B → ¬ (get_or x (end_at x (p + 1)) 0 ≡ byte Letter.stop)) →
-      Fires f a front back x (rewrite_of end_of x p)
+      FiresBy f a front back x (rewrite_of end_of x p)
   fires end_of f a laid right n m =
-      subst (Fires f a front back x) (rewrite-letter end_of x p (get_or x (p + 1) 0) refl (head_of f) (function-head laid))
+      subst (FiresBy f a front back x) (rewrite-letter end_of x p (get_or x (p + 1) 0) refl (head_of f) (function-head laid))
       (function-fires end_of f a laid right
       (λ e. n (function-head laid ∙ e))
       (λ e q. m (function-head laid ∙ e) (argument-head laid (end_at x (p + 1)) refl ∙ ap byte q)))

@@ -1,18 +1,18 @@
 -- The text that a rewrite makes, in pieces. Assumes nothing.
 -- REQUIREMENTS, Rules.
-use Rattle.std.specs.Prelude.{ℕ, zero, suc, List, [], ◌∷◌, length}
+use Rattle.std.specs.Prelude.{ℕ, List, [], ◌∷◌, length, Option, Some, None}
 use Rattle.slices.specs.Part.{part}
 use Rattle.parts.proofs.Pieces.{flat}
-use Rattle.rewriting.specs.declared.Part.{Part}
+use Rattle.slices.specs.declared.Span.{Span}
 use Rattle.rewriting.specs.declared.Rewrite.{Rewrite}
 
--- a letter, or nothing for 0
-abbrev pub letter_text : ℕ → List ℕ
-letter_text zero = []
-letter_text (suc b) = suc b ∷ []
+-- a letter, or nothing
+abbrev pub letter_text : Option ℕ → List ℕ
+letter_text None = []
+letter_text (Some b) = b ∷ []
 
 -- the bytes of a part
-abbrev pub bytes_of : Part → List ℕ → List ℕ
+abbrev pub bytes_of : Span → List ℕ → List ℕ
 bytes_of p s = part p.from p.to s
 
 -- the pieces of the text that w makes of s

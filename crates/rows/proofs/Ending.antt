@@ -1,12 +1,10 @@
 -- From what the code finds to the reply and the table: each way out of `ring` and of `ring_chain` as one law. Assumes nothing.
 use Prim.Native.Nat.{ℕ, suc, ◌+◌, ◌*◌, ◌-◌, ◌/◌, ◌%◌, ◌≤◌, ◌<◌}
 use native.Mathlib.Omega.{arith}
-use mathlib.Core.Path.{◌≡◌, refl, sym, ◌∙◌, ap, ap₂}
+use mathlib.Core.Path.{◌≡◌, sym, ◌∙◌, ap, ap₂}
 use mathlib.Core.Bool.{Bool, true, false}
-use mathlib.Core.Logic.{inl, inr}
-use mathlib.Core.List.{List, [], ◌∷◌, ◌++◌}
-use types.Run.{OneOf}
-use denote.Enum.Declared.{tag_of}
+use mathlib.Core.List.{List, ◌++◌}
+use Rattle.std.specs.Prelude.{Err}
 use lib.ListN.{length, take, replicate}
 use Rattle.calculus.specs.Term.{Term, text}
 use Rattle.calculus.proofs.PrefixCode.{length-text}
@@ -14,12 +12,10 @@ use Rattle.slices.specs.Same.{same}
 use Rattle.slices.specs.Wrote.{Wrote}
 use Rattle.slices.proofs.Wrote.{wrote-zeros}
 use Rattle.repeats.specs.Repeats.{withoutRepeats}
-use Rattle.reading.specs.Reply.{Reply, passed_on}
+use Rattle.reading.specs.Reply.{Reply}
 use Rattle.reading.specs.Reading.{reading_of}
 use Rattle.reading.specs.Answer.{answer_of as readingAnswer}
-use Rattle.reading.specs.declared.Reading.{Reading}
-use Rattle.reading.specs.declared.Reading.TheVariants.{Whole, NoLetter, NotWhole, Beyond}
-use Rattle.reading.specs.contracts.Reading.{the_type}
+use Rattle.reading.specs.declared.Misread.{Misread}
 use Rattle.reading.proofs.Terms.{whole-read, unread}
 use Rattle.bell_rows.specs.Chain.{bells_of}
 use Rattle.bell_rows.specs.Row.{fewest, most, cut_into, laid_out}
@@ -28,7 +24,9 @@ use Rattle.bell_rows.proofs.Chains.{chain-text, some_if}
 use Rattle.bell_rows.proofs.Bells.{bells_half}
 use Rattle.bell_rows.proofs.Cutting.{length_cut, whole-rows}
 use Rattle.rows.specs.Ringing.{Rung, After, row_limit, good_rows, rows_for, ringing_of}
-use Rattle.rows.specs.Storing.{Chained, Layable}
+use Rattle.rows.specs.Storing.{Chained}
+use Rattle.rows.specs.Answer.{answer_of}
+use Rattle.rows.specs.declared.Refused.TheVariants.{Unread}
 use Rattle.rows.proofs.Calls.{
   bells-few,
   bells-many,
@@ -52,19 +50,11 @@ bells_by_test t bytes same e =
     ∙ ap (λ (s : List ℕ). some_if (is_chain_text s) (bells_in s)) (sym same)
     ∙ ap (λ (b : Bool). some_if b (bells_in bytes)) e
 
--- an answer of reading that is not the first is one of the others
-pub others-unread : (r : Reading) → ((n : ℕ) → r ≡ Whole n → ⊥) → OneOf (1 ∷ 2 ∷ 3 ∷ []) (tag_of the_type r)
-others-unread (Whole n) h = absurd (h n refl)
-others-unread (NoLetter place) h = inl refl
-others-unread (NotWhole place) h = inr (inl refl)
-others-unread (Beyond place) h = inr (inr refl)
-
 module _ (bytes : List ℕ) (n : ℕ) (table : List ℕ) where
   -- what reading refuses
   pub refused-unread :
-      (r : Reading) → readingAnswer r ≡ reading_of bytes → OneOf (1 ∷ 2 ∷ 3 ∷ []) (tag_of the_type r) →
-      After.after (passed_on (readingAnswer r)) table ≡ ringing_of bytes n table
-  refused-unread r e k = sym (unread-decides bytes n table (unread bytes r e k))
+      (m : Misread) → readingAnswer (Err m) ≡ reading_of bytes → After.after (answer_of (Err (Unread m))) table ≡ ringing_of bytes n table
+  refused-unread m e = sym (unread-decides bytes n table (unread bytes m e))
 
   module _ (m : ℕ) (first : Reply.answered m ≡ reading_of bytes) where
     -- 20: too few bells, or too many, or no chain
@@ -123,8 +113,9 @@ module _ (bytes : List ℕ) (n : ℕ) (table : List ℕ) where
       whole = c.counted ∙ whole-rows n (m) even
 
       module _ (limited : m / n ≤ row_limit) (room : m / n ≤ length table / most) where
-        pub layable : Layable n (m / n) bytes table
-        layable = record { few = c.few; whole = whole; limited = limited; room = omega arith }
+        -- and the table holds them
+        pub table_room : m / n * most ≤ length table
+        table_room = omega arith
 
         abbrev rows : List (List ℕ)
         rows = cut_into (m / n) n (bells_in bytes)

@@ -10,14 +10,14 @@ use Rattle.slices.specs.Part.{part}
 use Rattle.slices.specs.Wrote.{Wrote}
 use Rattle.slices.proofs.Part.{part-front}
 use Rattle.slices.proofs.Appending.{Appends, wrote}
-use Rattle.slices.proofs.Wrote.{wrote_none, wrote_then}
+use Rattle.slices.proofs.Wrote.{wrote_then}
 use Rattle.bell_rows.specs.Row.{most, cut_into, placed, laid_out}
 use Rattle.bell_rows.specs.Bytes.{bells_in}
 use Rattle.bell_rows.specs.Key.{key_of}
-use Rattle.bell_rows.proofs.Bells.{row-full, row-linked}
+use Rattle.bell_rows.proofs.Bells.{row-full}
 use Rattle.bell_rows.proofs.Keys.{placed-length}
 use Rattle.bell_rows.proofs.Cutting.{length_cut, row_of}
-use Rattle.rows.specs.Storing.{Storable, keys_of}
+use Rattle.rows.specs.Storing.{keys_of}
 
 -- one row more
 laid_snoc : (rows : List (List ℕ)) (row : List ℕ) → laid_out rows ++ placed row ≡ laid_out (rows ++ (row ∷ []))
@@ -40,70 +40,60 @@ module _ (n count : ℕ) (chain table₀ keys₀ : List ℕ) where
   abbrev rows : List (List ℕ)
   rows = cut_into count n (bells_in chain)
 
-  pub none-stored : Stored n count chain table₀ keys₀ 0 table₀ keys₀
-  none-stored =
-      record {
-        not_past = omega arith;
-        laid = wrote_none 0 table₀ (omega arith);
-        keyed = refl;
-        sized = refl;
-      }
+  module _
+      (few : n ≤ most) (whole : length (bells_in chain) ≡ count * n) (room : count * most ≤ length table₀) (long_keys : count ≤ length keys₀)
+    where
+      module _ (i : ℕ) (h : i < count) where
+        abbrev row : List ℕ
+        row = take n (drop (i * n) (bells_in chain))
 
-  module _ (s : Storable n count chain table₀ keys₀) where
-    module _ (i : ℕ) (h : i < count) where
-      abbrev row : List ℕ
-      row = take n (drop (i * n) (bells_in chain))
+        row_sized : length row ≡ n
+        row_sized = row-full chain n count i few whole h
 
-      row_sized : length row ≡ n
-      row_sized = row-full chain n count i s.layable.few s.layable.whole h
+        next_row : take (i + 1) rows ≡ take i rows ++ (row ∷ [])
+        next_row =
+            let sized = length_cut n count (bells_in chain) in
+            ap (λ (k : ℕ). take k rows) (add-one i) ∙ take-suc rows i [] (omega arith)
+            ∙ ap (λ (r : List ℕ). take i rows ++ (r ∷ [])) (row_of n count i (bells_in chain) h)
 
-      next_row : take (i + 1) rows ≡ take i rows ++ (row ∷ [])
-      next_row =
-          let sized = length_cut n count (bells_in chain) in
-          ap (λ (k : ℕ). take k rows) (add-one i) ∙ take-suc rows i [] (omega arith)
-          ∙ ap (λ (r : List ℕ). take i rows ++ (r ∷ [])) (row_of n count i (bells_in chain) h)
+        -- a row and its key
+        pub one-stored :
+            (places table table' keys : List ℕ) (end k : ℕ) → Stored n count chain table₀ keys₀ i table keys → places ≡ placed row →
+            Appends (i * most) (part 0 most places) table end table' → k ≡ key_of places →
+            Stored n count chain table₀ keys₀ (i + 1) table' (set keys i k)
+        one-stored places table table' keys end k before e appends q =
+            let long = placed-length row (omega (arith, row_sized, few)) in
+            let w₁ = before.laid in
+            let piece : part 0 most places ≡ placed row =
+            part-front most places ∙ ap (take most) e ∙ take_all most (placed row) (omega arith) in
+            let w₂ : Wrote (i * most) end (placed row) table table' =
+            wrote (i * most) (placed row) table (omega (arith, w₁.size))
+            (subst (λ (p : List ℕ). Appends (i * most) p table end table') piece appends) in
+            let ends : end ≡ (i + 1) * most = omega (arith, w₂.ends) in
+            let spelt : laid_out (take i rows) ++ placed row ≡ laid_out (take (i + 1) rows) =
+            laid_snoc (take i rows) row ∙ ap laid_out (sym next_row) in
+            let both : Wrote 0 end (laid_out (take (i + 1) rows)) table₀ table' =
+            subst (λ (p : List ℕ). Wrote 0 end p table₀ table') spelt (wrote_then w₁ w₂) in
+            record {
+              not_past = omega arith;
+              laid = subst (λ (m : ℕ). Wrote 0 m (laid_out (take (i + 1) rows)) table₀ table') ends both;
+              keyed =
+                  ap (λ (m : ℕ). take m (set keys i k)) (add-one i)
+                  ∙ take-suc-set keys i k (omega (arith, before.sized, long_keys))
+                  ∙ ap₂ (λ (front : List ℕ) (last : ℕ). front ++ (last ∷ [])) before.keyed (q ∙ ap key_of e)
+                  ∙ keys_snoc (take i rows) row
+                  ∙ ap keys_of (sym next_row);
+              sized = length-set keys i k ∙ before.sized;
+            }
 
-      -- a row and its key
-      pub one-stored :
-          (links places table table' keys : List ℕ) (end k : ℕ) → Stored n count chain table₀ keys₀ i table keys →
-          links ≡ part (i * (2 * n)) (i * (2 * n) + 2 * n) chain → places ≡ placed (take most (bells_in links)) →
-          Appends (i * most) (part 0 most places) table end table' → k ≡ key_of places →
-          Stored n count chain table₀ keys₀ (i + 1) table' (set keys i k)
-      one-stored links places table table' keys end k before l made appends q =
-          let e = row-linked chain n count i s.layable.few s.layable.whole h links places l made in
-          let room = s.layable.room in
-          let long = placed-length row (omega (arith, row_sized, s.layable.few)) in
-          let w₁ = before.laid in
-          let piece : part 0 most places ≡ placed row =
-          part-front most places ∙ ap (take most) e ∙ take_all most (placed row) (omega arith) in
-          let w₂ : Wrote (i * most) end (placed row) table table' =
-          wrote (i * most) (placed row) table (omega (arith, w₁.size))
-          (subst (λ (p : List ℕ). Appends (i * most) p table end table') piece appends) in
-          let ends : end ≡ (i + 1) * most = omega (arith, w₂.ends) in
-          let spelt : laid_out (take i rows) ++ placed row ≡ laid_out (take (i + 1) rows) =
-          laid_snoc (take i rows) row ∙ ap laid_out (sym next_row) in
-          let both : Wrote 0 end (laid_out (take (i + 1) rows)) table₀ table' =
-          subst (λ (p : List ℕ). Wrote 0 end p table₀ table') spelt (wrote_then w₁ w₂) in
-          record {
-            not_past = omega arith;
-            laid = subst (λ (m : ℕ). Wrote 0 m (laid_out (take (i + 1) rows)) table₀ table') ends both;
-            keyed =
-                ap (λ (m : ℕ). take m (set keys i k)) (add-one i)
-                ∙ take-suc-set keys i k (omega (arith, before.sized, s.keyed))
-                ∙ ap₂ (λ (front : List ℕ) (last : ℕ). front ++ (last ∷ [])) before.keyed (q ∙ ap key_of e)
-                ∙ keys_snoc (take i rows) row
-                ∙ ap keys_of (sym next_row);
-            sized = length-set keys i k ∙ before.sized;
-          }
-
-    -- all of them
-    pub all-stored :
-        (i : ℕ) (table keys : List ℕ) → Stored n count chain table₀ keys₀ i table keys → count ≤ i →
-        (Wrote 0 (count * most) (laid_out rows) table₀ table) × (take count keys ≡ keys_of rows)
-    all-stored i table keys d h =
-        let all : i ≡ count = omega (arith, d.not_past) in
-        let whole : take i rows ≡ rows = take_all i rows (omega (arith, length_cut n count (bells_in chain))) in (
-          subst (λ (m : ℕ). Wrote 0 (m * most) (laid_out rows) table₀ table) all
-              (subst (λ (r : List (List ℕ)). Wrote 0 (i * most) (laid_out r) table₀ table) whole d.laid),
-          ap (λ (m : ℕ). take m keys) (sym all) ∙ d.keyed ∙ ap keys_of whole,
-        )
+      -- all of them
+      pub all-stored :
+          (i : ℕ) (table keys : List ℕ) → Stored n count chain table₀ keys₀ i table keys → count ≤ i →
+          (Wrote 0 (count * most) (laid_out rows) table₀ table) × (take count keys ≡ keys_of rows)
+      all-stored i table keys d h =
+          let all : i ≡ count = omega (arith, d.not_past) in
+          let whole : take i rows ≡ rows = take_all i rows (omega (arith, length_cut n count (bells_in chain))) in (
+            subst (λ (m : ℕ). Wrote 0 (m * most) (laid_out rows) table₀ table) all
+                (subst (λ (r : List (List ℕ)). Wrote 0 (i * most) (laid_out r) table₀ table) whole d.laid),
+            ap (λ (m : ℕ). take m keys) (sym all) ∙ d.keyed ∙ ap keys_of whole,
+          )

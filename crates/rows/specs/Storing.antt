@@ -1,12 +1,12 @@
--- What the functions below `ring` need of the chain, the table and the keys, and the keys that `store` leaves (REQUIREMENTS, Rows).
-use Rattle.std.specs.Prelude.{ℕ, ◌*◌, ◌≤◌, ◌≡◌, List, map, length}
+-- The rows of a chain's text, what `ring_chain` needs of it, and the keys that are stored (REQUIREMENTS, Rows).
+use Rattle.std.specs.Prelude.{ℕ, ◌≤◌, ◌≡◌, List, map, length}
 use Rattle.calculus.specs.Term.{Term}
 use Rattle.reading.specs.Reply.{Reply}
 use Rattle.reading.specs.Reading.{term_read}
 use Rattle.bell_rows.specs.Row.{fewest, most, cut_into, placed}
 use Rattle.bell_rows.specs.Bytes.{bells_in}
 use Rattle.bell_rows.specs.Key.{key_of}
-use Rattle.rows.specs.Ringing.{row_limit, bells_for}
+use Rattle.rows.specs.Ringing.{bells_for}
 
 -- so many rows of n bells from the text of a chain
 abbrev pub rows_in : (n count : ℕ) (chain : List ℕ) → List (List ℕ)
@@ -20,18 +20,6 @@ pub record Chained (bytes : List ℕ) (n struck : ℕ) : Type 0 where
   pub term : Term
   pub read : term_read bytes ≡ Reply.answered term
   pub belled : bells_for n term ≡ Reply.answered (bells_in bytes)
-
--- the chain is so many rows of n bells, no more than a piece may have, and the table has room for them
-pub record Layable (n count : ℕ) (chain table : List ℕ) : Type 0 where
-  pub few : n ≤ most
-  pub whole : length (bells_in chain) ≡ count * n
-  pub limited : count ≤ row_limit
-  pub room : count * most ≤ length table
-
--- and there is room for their keys
-pub record Storable (n count : ℕ) (chain table keys : List ℕ) : Type 0 where
-  pub layable : Layable n count chain table
-  pub keyed : count ≤ length keys
 
 -- each row as one number
 abbrev pub keys_of : List (List ℕ) → List ℕ

@@ -1,20 +1,19 @@
 // Rows for the striker: a chain of bells, as rows in a table.
 #![tactic(auto)]
 
-ghost use Rattle.std.specs.Prelude.{◌≡◌, ◌*◌, ◌≤◌, length, take};
+ghost use Rattle.std.specs.Prelude.{◌≡◌, ◌*◌, ◌≤◌, ◌<◌, length, take, drop};
 ghost use Rattle.slices.specs.Same.{same};
 ghost use Rattle.slices.specs.Wrote.{Wrote};
 ghost use Rattle.repeats.specs.Repeats.{withoutRepeats};
-ghost use Rattle.reading.specs.Reply.{number_in, place_in};
 ghost use Rattle.bell_rows.specs.Bytes.{bells_in};
-ghost use Rattle.bell_rows.specs.Row.{most, laid_out};
-ghost use Rattle.rows.specs.Ringing.{After, good_rows, ringing_of};
-ghost use Rattle.rows.specs.Storing.{rows_in, Chained, Layable, Storable, keys_of};
-ghost use Rattle.rows.specs.Answer.{answer_of};
+ghost use Rattle.bell_rows.specs.Row.{most, placed, laid_out};
+ghost use Rattle.rows.specs.Ringing.{After, row_limit, good_rows, ringing_of};
+ghost use Rattle.rows.specs.Storing.{rows_in, Chained, keys_of};
+ghost use Rattle.rows.specs.Answer.{refusal_of, answer_of};
 
 use bell_rows::{MOST, is_chain, is_row, key, row_of};
 use filling::{append, zero_from};
-use reading::Reading;
+use reading::{Misread, Refusal};
 use slices::cut;
 
 // The fewest bells that a row has (bell_rows/specs/Row.antt).
@@ -23,131 +22,156 @@ const FEWEST: usize = 2;
 // The most rows of a piece (specs/Ringing.antt).
 const ROW_LIMIT: usize = 1000;
 
-// What reading a piece as rows answers; specs/Answer.antt gives the number and the values of each case.
+// How many rows the table now holds, and how many different ones.
 #[derive(Clone, Copy)]
-pub enum Ringing {
+pub struct Rung {
+    pub rows: usize,
+    pub different: usize,
+}
+
+// What a piece is refused for; specs/Answer.antt gives the number and the place of each case.
+#[derive(Clone, Copy)]
+pub enum Refused {
     // What reading refused, unaltered.
-    Unread(Reading),
+    Unread(Misread),
     // Rows have no such number of bells, or the term is no chain.
     NoChain,
     // The bells are no whole number of rows, or too many rows, or more than the table holds.
     NoTable,
     // The number of the first row that does not hold each bell once.
     BadRow(usize),
-    // The number of rows, which the table now holds, and of different rows.
-    Rows(usize, usize),
 }
 
-// The number of a refusal, 0 of an answer.
-pub fn number(answer: Ringing) -> u64
-    ensures { result ≡ number_in (answer_of answer) }
-{
-    match answer {
-        Ringing::Unread(reading) => reading::number(reading),
-        Ringing::NoChain => 20,
-        Ringing::NoTable => 21,
-        Ringing::BadRow(_) => 22,
-        Ringing::Rows(_, _) => 0,
-    }
-}
+impl Refusal for Refused {
+    ghost refusal = { refusal_of };
 
-// The place of a refusal, or the number of the bad row; 0 of an answer and of what is refused without a place.
-pub fn place(answer: Ringing) -> usize
-    ensures { result ≡ place_in (answer_of answer) }
-{
-    match answer {
-        Ringing::Unread(reading) => reading::place(reading),
-        Ringing::NoChain => 0,
-        Ringing::NoTable => 0,
-        Ringing::BadRow(number) => number,
-        Ringing::Rows(_, _) => 0,
-    }
-}
-
-// How many rows stand in front of the first bad one; all of them where there is none.
-fn good_rows(chain: &[u8], bells: usize, count: usize) -> usize
-    requires { (bells ≤ most) × (length (bells_in chain.now) ≡ count * bells) }
-    ensures { result ≡ good_rows bells (rows_in bells count chain.now) }
-{
-    let width = 2 * bells;
-    let mut i = 0;
-    while i < count {
-        let links = cut(chain, i * width, i * width + width);
-        if !is_row(row_of(links), bells) {
-            return i;
+    fn number(&self) -> u64 {
+        match *self {
+            Refused::Unread(misread) => misread.number(),
+            Refused::NoChain => 20,
+            Refused::NoTable => 21,
+            Refused::BadRow(_) => 22,
         }
-        i += 1;
     }
-    i
-}
 
-// Stores the rows in the table, one behind the other, and the key of each.
-fn store(chain: &[u8], bells: usize, count: usize, table: &mut [u8], keys: &mut [u64])
-    requires { Storable bells count chain.now table.old keys.old }
-    ensures wrote { Wrote 0 (count * most) (laid_out (rows_in bells count chain.now)) table.old table.new }
-    ensures keys_after { take count keys.new ≡ keys_of (rows_in bells count chain.now) }
-{
-    let width = 2 * bells;
-    let mut i = 0;
-    while i < count {
-        let row = row_of(cut(chain, i * width, i * width + width));
-        append(&row, 0, MOST, table, i * MOST);
-        keys[i] = key(row);
-        i += 1;
+    fn place(&self) -> usize {
+        match *self {
+            Refused::Unread(misread) => misread.place(),
+            Refused::NoChain | Refused::NoTable => 0,
+            Refused::BadRow(number) => number,
+        }
     }
 }
 
-// Stores the rows in the table, and answers how many different ones there are.
-fn lay(chain: &[u8], bells: usize, count: usize, table: &mut [u8]) -> usize
-    requires { Layable bells count chain.now table.old }
-    ensures { (Wrote 0 (count * most) (laid_out (rows_in bells count chain.now)) table.old table.new)
-        × (result ≡ length (withoutRepeats same (rows_in bells count chain.now))) }
-{
-    let mut keys = [0u64; ROW_LIMIT];
-    store(chain, bells, count, table, &mut keys);
-    repeats::different(&keys[..count])
+// The text of a chain whose bells are so many rows.
+#[derive(Clone, Copy)]
+struct Piece<'a> {
+    chain: &'a [u8],
+    bells: usize,
+    count: usize,
+    ghost few: { bells ≤ most },
+    ghost whole: { length (bells_in chain.now) ≡ count * bells },
+}
+
+impl Piece<'_> {
+    // The row at an index, in its places.
+    fn row(&self, i: usize) -> [u8; MOST]
+        requires { i < self.now.count }
+        ensures { result ≡ placed (take self.now.bells (drop (i * self.now.bells) (bells_in self.now.chain.now))) }
+    {
+        let width = 2 * self.bells;
+        row_of(cut(self.chain, i * width, i * width + width))
+    }
+
+    // How many rows stand in front of the first bad one; all of them where there is none.
+    fn good(&self) -> usize
+        ensures { result ≡ good_rows self.now.bells (rows_in self.now.bells self.now.count self.now.chain.now) }
+    {
+        for i in 0..self.count {
+            if !is_row(self.row(i), self.bells) {
+                return i;
+            }
+        }
+        self.count
+    }
+
+    // Stores the rows in the table, one behind the other, and the key of each.
+    fn store(&self, table: &mut [u8], keys: &mut [u64])
+        requires room { self.now.count * most ≤ length table.old }
+        requires keyed { self.now.count ≤ length keys.old }
+        ensures wrote { let rows = rows_in self.now.bells self.now.count self.now.chain.now in
+            Wrote 0 (self.now.count * most) (laid_out rows) table.old table.new }
+        ensures keys_after { take self.now.count keys.new ≡ keys_of (rows_in self.now.bells self.now.count self.now.chain.now) }
+    {
+        for i in 0..self.count {
+            let row = self.row(i);
+            append(&row, 0, MOST, table, i * MOST);
+            keys[i] = key(row);
+        }
+    }
+
+    // Stores the rows in the table, and answers how many different ones there are.
+    fn lay(&self, table: &mut [u8]) -> usize
+        requires limited { self.now.count ≤ row_limit }
+        requires room { self.now.count * most ≤ length table.old }
+        ensures wrote { let rows = rows_in self.now.bells self.now.count self.now.chain.now in
+            Wrote 0 (self.now.count * most) (laid_out rows) table.old table.new }
+        ensures counted { result ≡ length (withoutRepeats same (rows_in self.now.bells self.now.count self.now.chain.now)) }
+    {
+        let mut keys = [0u64; ROW_LIMIT];
+        self.store(table, &mut keys);
+        repeats::different(&keys[..self.count])
+    }
 }
 
 // The rows of a chain of that many bells, into the table.
-fn ring_chain(chain: &[u8], bells: usize, struck: usize, table: &mut [u8]) -> Ringing
+fn ring_chain(chain: &[u8], bells: usize, struck: usize, table: &mut [u8]) -> Result<Rung, Refused>
     requires { Chained chain.now bells struck }
     ensures { After.after (answer_of result) table.new ≡ ringing_of chain.now bells table.old }
 {
     if struck % bells != 0 {
-        return Ringing::NoTable;
+        return Err(Refused::NoTable);
     }
     let count = struck / bells;
     if ROW_LIMIT < count {
-        return Ringing::NoTable;
+        return Err(Refused::NoTable);
     }
     if table.len() / MOST < count {
-        return Ringing::NoTable;
+        return Err(Refused::NoTable);
     }
-    let good = good_rows(chain, bells, count);
+    let piece = Piece {
+        chain,
+        bells,
+        count,
+    };
+    let good = piece.good();
     if good < count {
-        return Ringing::BadRow(good + 1);
+        return Err(Refused::BadRow(good + 1));
     }
-    let different = lay(chain, bells, count, table);
+    let different = piece.lay(table);
     zero_from(table, count * MOST);
-    Ringing::Rows(count, different)
+    Ok(Rung {
+        rows: count,
+        different,
+    })
 }
 
 // The rows of a piece, into the table, with zeros behind them. A refusal leaves the table as it is.
-pub fn ring(term: &[u8], bells: usize, table: &mut [u8]) -> Ringing
+pub fn ring(term: &[u8], bells: usize, table: &mut [u8]) -> Result<Rung, Refused>
     ensures { After.after (answer_of result) table.new ≡ ringing_of term.now bells table.old }
 {
     let reading = reading::read(term);
-    let Reading::Whole(size) = reading else {
-        return Ringing::Unread(reading);
+    let Ok(size) = reading else {
+        return Err(Refused::Unread(reading.unwrap_err()));
     };
     if bells < FEWEST {
-        return Ringing::NoChain;
+        return Err(Refused::NoChain);
     }
     if MOST < bells {
-        return Ringing::NoChain;
+        return Err(Refused::NoChain);
     }
     if !is_chain(term) {
-        return Ringing::NoChain;
+        return Err(Refused::NoChain);
     }
     ring_chain(term, bells, size / 2, table)
 }

@@ -1,34 +1,17 @@
--- The first place of a byte: what the loop of `find` goes by, and what the index says of the bytes. Assumes nothing.
+-- The first place of a byte: that the library finds it, and what the index says of the bytes. Assumes nothing.
 use Prim.Native.Nat.{ℕ, suc, ◌+◌, ◌≤◌, ◌<◌}
-use native.Mathlib.Numerals.{add-one}
 use native.Mathlib.Omega.{arith}
 use mathlib.Core.Path.{◌≡◌, refl, sym, ◌∙◌, ap}
-use mathlib.Core.Bool.{Bool, true, false}
+use mathlib.Core.Bool.{Bool, true, false, not, cond}
 use mathlib.Core.List.Memᴰ
 use mathlib.Core.List.{List, [], ◌∷◌, ◌++◌, Memᴰ}
-use borrow.Author.Tests.{eq-eqb, ne_eqb, eqb-true}
-use lib.Dec.{eqb}
-use lib.ListN.{length, get_or, drop, drop_of_length-le}
-use lib.Seq.{drop-cons}
+use borrow.Author.Tests.{eq-eqb, eqb-true, ltb-false}
+use lib.Dec.{eqb, ltb}
+use lib.ListN.{length}
+use Rattle.std.specs.Prelude.{Option, Some, None, position}
+use Rattle.std.specs.List.{position_or_len}
+use Rattle.std.specs.Option.{unwrap_or}
 use Rattle.slices.specs.Find.{index_from, index_of}
-
--- ---- the loop
-
-module _ (b : ℕ) (s : List ℕ) (at : ℕ) (h : at < length s) where
-  -- the byte at an index decides first
-  index_at : index_of b (drop at s) ≡ index_from (eqb (get_or s at 0) b) (index_of b (drop (at + 1) s))
-  index_at =
-      ap (index_of b) (drop-cons s at 0 h) ∙ ap (λ (n : ℕ). index_from (eqb (get_or s at 0) b) (index_of b (drop n s))) (sym (add-one at))
-
-  pub index-here : get_or s at 0 ≡ b → index_of b (drop at s) ≡ 0
-  index-here e = index_at ∙ ap (λ (x : Bool). index_from x (index_of b (drop (at + 1) s))) (eq-eqb (get_or s at 0) b e)
-
-  pub index-later : ¬ (get_or s at 0 ≡ b) → index_of b (drop at s) ≡ suc (index_of b (drop (at + 1) s))
-  index-later n = index_at ∙ ap (λ (x : Bool). index_from x (index_of b (drop (at + 1) s))) (ne_eqb (get_or s at 0) b n)
-
--- at the end
-pub index_end : (b : ℕ) (s : List ℕ) (at : ℕ) → length s ≤ at → index_of b (drop at s) ≡ 0
-index_end b s at h = ap (index_of b) (drop_of_length-le s h)
 
 -- ---- what the index says
 
@@ -62,6 +45,31 @@ member_index b (c ∷ s) (Memᴰ.tail m) = go (eqb c b) (member_index b s m)
     go : (x : Bool) → index_of b s < length s → index_from x (index_of b s) < suc (length s)
     go true h = omega arith
     go false h = omega arith
+
+-- ---- the library's place of a byte, and the index
+
+prefix_index : (b : ℕ) (s : List ℕ) → position_or_len (λ x. eqb x b) s ≡ index_of b s
+prefix_index b [] = refl
+prefix_index b (c ∷ s) = go (eqb c b) (prefix_index b s)
+  where
+    go :
+        (x : Bool) → position_or_len (λ c. eqb c b) s ≡ index_of b s →
+        cond (not x) (1 + position_or_len (λ c. eqb c b) s) 0 ≡ index_from x (index_of b s)
+    go true e = refl
+    go false e = omega (arith, e)
+
+-- the place, and the length where there is none
+pub index_found :
+    (b : ℕ) (s : List ℕ) (place : Option ℕ) (at : ℕ) → place ≡ position (λ x. eqb x b) s → at ≡ unwrap_or place (length s) → at ≡ index_of b s
+index_found b s place at e q =
+    q ∙ ap (λ (o : Option ℕ). unwrap_or o (length s)) e ∙ go (ltb n (length s)) refl ∙ prefix_index b s
+  where
+    n : ℕ
+    n = position_or_len (λ x. eqb x b) s
+
+    go : (t : Bool) → ltb n (length s) ≡ t → unwrap_or (cond t (Some n) None) (length s) ≡ n
+    go true e = refl
+    go false e = omega (arith, index_within b s, prefix_index b s, ltb-false n (length s) e)
 
 -- ---- bytes among which a byte is not
 

@@ -20,24 +20,14 @@ pub const DIGIT_9: u8 = 57;
 pub fn byte_at(s: &[u8], at: usize) -> u8
     ensures { result ≡ get_or s.now at 0 }
 {
-    if at < s.len() {
-        return s[at];
-    }
-    0
+    s.get(at).copied().unwrap_or(0)
 }
 
 // The index of the first `b`, the length where there is none.
 pub fn find(s: &[u8], b: u8) -> usize
     ensures { result ≡ index_of b s.now }
 {
-    let mut at = 0;
-    while at < s.len() {
-        if s[at] == b {
-            return at;
-        }
-        at += 1;
-    }
-    at
+    s.iter().position(|x| *x == b).unwrap_or(s.len())
 }
 
 // Whether every byte is 0. It has no way out before the end, so that the compiler looks at many bytes at once.
@@ -46,12 +36,10 @@ pub fn is_zeros(s: &[u8]) -> bool
     ensures { result ≡ same s.now (replicate (length s.now) 0) }
 {
     let mut clean = true;
-    let mut i = 0;
-    while i < s.len() {
-        if s[i] != 0 {
+    for x in s {
+        if *x != 0 {
             clean = false;
         }
-        i += 1;
     }
     clean
 }
@@ -76,5 +64,21 @@ pub fn cut(s: &[u8], from: usize, to: usize) -> &[u8]
 pub fn same_part(a: &[u8], a_from: usize, a_to: usize, b: &[u8], b_from: usize, b_to: usize) -> bool
     ensures { result ≡ same (part a_from a_to a.now) (part b_from b_to b.now) }
 {
-    check::same(cut(a, a_from, a_to), cut(b, b_from, b_to))
+    cut(a, a_from, a_to) == cut(b, b_from, b_to)
+}
+
+// A part of a slice by where it stands: from index `from` up to, not including, `to`.
+#[derive(Clone, Copy)]
+pub struct Span {
+    pub from: usize,
+    pub to: usize,
+}
+
+impl Span {
+    // The bytes of the part.
+    pub fn of(self, s: &[u8]) -> &[u8]
+        ensures { result.now ≡ part self.from self.to s.now }
+    {
+        cut(s, self.from, self.to)
+    }
 }

@@ -2,9 +2,10 @@
 #![tactic(auto)]
 
 ghost use Rattle.std.specs.Prelude.{◌≡◌};
-ghost use Rattle.reading.specs.Reply.{number_in};
 ghost use Rattle.small_admission.specs.Admission.{is_small_size, admitted};
-ghost use Rattle.small_admission.specs.Answer.{reply_of};
+ghost use Rattle.small_admission.specs.Answer.{refusal_of, answer_of};
+
+use reading::Refusal;
 
 // The sizes of the smallest and of the largest terms that are run.
 const SMALLEST_SIZE: u64 = 1;
@@ -14,9 +15,9 @@ const LARGEST_SIZE: u64 = small_texts::LARGEST_SIZE as u64;
 // The most bytes that an area has.
 const AREA_LIMIT: u64 = calculus::AREA_LIMIT as u64;
 
-// Whether a call is refused; specs/Answer.antt gives the number of each case.
+// Why a call is refused; specs/Answer.antt gives the number of each case.
 #[derive(Clone, Copy)]
-pub enum Admission {
+pub enum Refused {
     // The size is not from 1 to 7.
     NotSmall,
     // The fuel is over 1,000,000.
@@ -25,20 +26,22 @@ pub enum Admission {
     AreaTooLong,
     // The area size is below the terms' size.
     AreaTooShort,
-    // The call is not refused.
-    Admitted,
 }
 
-// The number of a refusal, 0 where the call is not refused.
-pub fn number(admission: Admission) -> u64
-    ensures { result ≡ number_in (reply_of admission) }
-{
-    match admission {
-        Admission::NotSmall => 32,
-        Admission::FuelTooHigh => 4,
-        Admission::AreaTooLong => 1,
-        Admission::AreaTooShort => 3,
-        Admission::Admitted => 0,
+impl Refusal for Refused {
+    ghost refusal = { refusal_of };
+
+    fn number(&self) -> u64 {
+        match *self {
+            Refused::NotSmall => 32,
+            Refused::FuelTooHigh => 4,
+            Refused::AreaTooLong => 1,
+            Refused::AreaTooShort => 3,
+        }
+    }
+
+    fn place(&self) -> usize {
+        0
     }
 }
 
@@ -46,25 +49,25 @@ pub fn number(admission: Admission) -> u64
 fn is_small_size(n: u64) -> bool
     ensures { result ≡ is_small_size n }
 {
-    SMALLEST_SIZE <= n && n <= LARGEST_SIZE
+    (SMALLEST_SIZE..=LARGEST_SIZE).contains(&n)
 }
 
-// Whether a call is refused.
+// Whether a call is refused, and why.
 #[tactic(auto, unfolding(crate::specs::Admission::admitted))]
-pub fn admit(n: u64, fuel: u64, area: u64) -> Admission
-    ensures { reply_of result ≡ admitted n fuel area }
+pub fn admit(n: u64, fuel: u64, area: u64) -> Result<(), Refused>
+    ensures { answer_of result ≡ admitted n fuel area }
 {
     if !is_small_size(n) {
-        return Admission::NotSmall;
+        return Err(Refused::NotSmall);
     }
     if calculus::FUEL_LIMIT < fuel {
-        return Admission::FuelTooHigh;
+        return Err(Refused::FuelTooHigh);
     }
     if AREA_LIMIT < area {
-        return Admission::AreaTooLong;
+        return Err(Refused::AreaTooLong);
     }
     if area < n {
-        return Admission::AreaTooShort;
+        return Err(Refused::AreaTooShort);
     }
-    Admission::Admitted
+    Ok(())
 }

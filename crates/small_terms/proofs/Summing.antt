@@ -81,10 +81,6 @@ swept-more rs r = go (outcome r) refl
 
 -- ---- all of them
 
--- no runs come to nothing
-pub summed-none : (n fuel area : ℕ) → Summed n fuel area 0 (Swept.swept 0 0 0 0)
-summed-none n fuel area = record { sums = refl; few = (omega arith, omega arith, omega arith, omega arith) }
-
 few-more : (i k : ℕ) (o : Outcome) (w : Swept) → k ≤ fuel_limit → Few i w → Few (i + 1) (with_run o k w)
 few-more i k Outcome.finished (Swept.swept f s n steps) h (a, b, c, d) = (omega arith, omega arith, omega arith, omega arith)
 few-more i k Outcome.spent (Swept.swept f s n steps) h (a, b, c, d) = (omega arith, omega arith, omega arith, omega arith)

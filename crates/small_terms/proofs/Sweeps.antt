@@ -6,7 +6,6 @@ use mathlib.Core.Path.{◌≡◌, refl, sym, ◌∙◌, ap, subst}
 use mathlib.Core.Logic.{◌↔◌}
 use mathlib.Core.List.Memᴰ
 use mathlib.Core.List.{List, [], ◌∷◌, map, Memᴰ}
-use denote.Enum.Declared.{tag_of}
 use lib.ListN.{length, length-map}
 use Rattle.calculus.specs.Term.{Term}
 use Rattle.calculus.specs.Run.{Outcome, Run, Runs, run, outcome, count}
@@ -16,13 +15,12 @@ use Rattle.small_texts.specs.Texts.{small_terms, ways}
 use Rattle.small_texts.proofs.Each.{each-small, each_unique}
 use Rattle.small_admission.specs.Admission.{admitted, if_admitted, Admitted}
 use Rattle.small_terms.specs.Sweep.{Swept, ending, steps_of, swept_of, sweep_of, Sums, SweepsAs}
-use Rattle.small_admission.specs.Answer.{reply_of}
+use Rattle.small_admission.specs.Answer.{refusal_of}
 use Rattle.small_terms.specs.Loop.{Summed}
-use Rattle.small_admission.specs.declared.Admission.{Admission}
-use Rattle.small_admission.specs.contracts.Admission.{the_type}
+use Rattle.small_admission.specs.declared.Refused.{Refused}
 use Rattle.small_admission.proofs.Admitting.{refused-is, admitted-is, Decided, decided}
 use Rattle.small_terms.proofs.Summing.{held_by, summed-all}
-use Rattle.small_admission.proofs.Replies.{Refusal, said-refused, said-answered}
+use Rattle.small_admission.proofs.Replies.{said-refused, said-answered}
 use Rattle.small_terms.proofs.Finished.{some-finished, counts-parted, steps-fuel, all_end}
 
 -- ---- what runs come to
@@ -115,16 +113,17 @@ module _ (n fuel area : ℕ) where
 
 -- ---- the ways out of `sweep`
 
-module _ (n fuel area : ℕ) (a : Admission) (said : reply_of a ≡ admitted n fuel area) where
-  pub sweep-refused : Refusal a → passed_on (reply_of a) ≡ sweep_of n fuel area
+module _ (n fuel area : ℕ) where
+  pub sweep-refused : (e : Refused) → passed_on (refusal_of e) ≡ admitted n fuel area → passed_on (refusal_of e) ≡ sweep_of n fuel area
   unfolding sweep_of
-  sweep-refused k = said-refused n fuel area a said (whole n fuel area) k
+  sweep-refused e said = said-refused n fuel area (whole n fuel area) e said
 
-  pub sweep-answered : tag_of the_type a ≡ 4 → (w : Swept) → Summed n fuel area (ways 1 n) w → Reply.answered w ≡ sweep_of n fuel area
+  pub sweep-answered :
+      Reply.answered tt ≡ admitted n fuel area → (w : Swept) → Summed n fuel area (ways 1 n) w → Reply.answered w ≡ sweep_of n fuel area
   unfolding sweep_of
-  sweep-answered k w r =
+  sweep-answered said w r =
       ap (λ (x : Swept). Reply.answered x) (summed-all n fuel area (ways 1 n) w r (omega arith))
-      ∙ said-answered n fuel area a said k (whole n fuel area)
+      ∙ said-answered n fuel area said (whole n fuel area)
 
 -- ---- what the numbers of any answer are
 

@@ -1,5 +1,5 @@
 -- What the runs of small terms ask and leave: one run, and the runs so far (REQUIREMENTS, Small terms).
-use Rattle.std.specs.Prelude.{ℕ, ◌+◌, ◌-◌, ◌*◌, ◌≤◌, ◌<◌, ◌≡◌, cond, List, map, leb, length, take}
+use Rattle.std.specs.Prelude.{ℕ, Option, Some, None, ◌+◌, ◌*◌, ◌≤◌, ◌<◌, ◌≡◌, cond, List, map, leb, length, take}
 use Rattle.calculus.specs.Limits.{fuel_limit}
 use Rattle.calculus.specs.Run.{Outcome, run, outcome, count}
 use Rattle.small_texts.specs.Texts.{term_at, small_terms}
@@ -38,16 +38,17 @@ pub record Summed (n fuel area i : ℕ) (w : Swept) : Type 0 where
 
 -- ---- the dearest
 
--- the index of the dearest run so far, and the steps that make a later one dearer: one more than its own, 0 where none has finished
+-- the index of the dearest run so far, and the steps that it makes
 pub data Lead : Type 0 where
-  lead : (index least : ℕ) → Lead
+  lead : (index steps : ℕ) → Lead
 
--- a run that finished with so many steps, behind the dearest so far
-abbrev pub overtaken : (i k : ℕ) → Lead → Lead
-overtaken i k (Lead.lead index least) = cond (leb least k) (Lead.lead i (k + 1)) (Lead.lead index least)
+-- a run that finished with so many steps, behind the dearest so far, if there is one
+abbrev pub overtaken : (i k : ℕ) → Option Lead → Option Lead
+overtaken i k None = Some (Lead.lead i k)
+overtaken i k (Some (Lead.lead index steps)) = cond (leb k steps) (Some (Lead.lead index steps)) (Some (Lead.lead i k))
 
 -- the dearest of the runs so far and of run i, which ends so and makes k steps
-abbrev pub with_later : Outcome → (i k : ℕ) → Lead → Lead
+abbrev pub with_later : Outcome → (i k : ℕ) → Option Lead → Option Lead
 with_later Outcome.finished i k l = overtaken i k l
 with_later Outcome.spent i k l = l
 with_later Outcome.no_room i k l = l
@@ -57,11 +58,16 @@ pub record FinishesAt (n fuel area i k : ℕ) : Type 0 where
   pub ends : outcome (run fuel area (term_at n i)) ≡ Outcome.finished
   pub counts : count (run fuel area (term_at n i)) ≡ k
 
--- `Leading n fuel area i index least`: of the runs of the first i small terms that one is the dearest, if any finishes
-pub record Leading (n fuel area i index least : ℕ) : Type 0 where
-  pub leads : 1 ≤ least → (index < i) × FinishesAt n fuel area index (least - 1)
-  pub none_more : (j m : ℕ) → j < i → FinishesAt n fuel area j m → m < least
-  pub none-earlier : (j m : ℕ) → j < index → j < i → FinishesAt n fuel area j m → m + 1 < least
+-- `Leading n fuel area i index k`: of the runs of the first i small terms that one, of k steps, is the dearest
+pub record Leading (n fuel area i index k : ℕ) : Type 0 where
+  pub inside : index < i
+  pub finishes : FinishesAt n fuel area index k
+  -- none makes more
+  pub none_more : (j : ℕ) → j < i → (m : ℕ) → FinishesAt n fuel area j m → m ≤ k
+  -- and no earlier one as many
+  pub none-earlier : (j : ℕ) → j < index → (m : ℕ) → FinishesAt n fuel area j m → m < k
 
-abbrev pub Leads : (n fuel area i : ℕ) → Lead → Type 0
-Leads n fuel area i (Lead.lead index least) = Leading n fuel area i index least
+-- the dearest of those runs, or that none of them finishes
+abbrev pub Leads : (n fuel area i : ℕ) → Option Lead → Type 0
+Leads n fuel area i None = (j : ℕ) → j < i → (m : ℕ) → ¬ FinishesAt n fuel area j m
+Leads n fuel area i (Some (Lead.lead index k)) = Leading n fuel area i index k

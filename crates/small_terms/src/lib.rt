@@ -12,10 +12,10 @@ ghost use Rattle.small_terms.specs.Answer.{swept_in, answer_of, lead_in, found_a
 ghost use Rattle.small_terms.specs.Loop.{Ready, Ran, with_run, most_terms, Few, Summed, with_later, Leads};
 
 use finishing::{Outcome, Run};
-use small_admission::Admission;
+use small_admission::Refused;
 
 // What the runs came to: how many finished, were spent and had no room, and the steps of the finished ones in all.
-#[derive(Clone, Copy)]
+#[derive(Clone, Copy, Default)]
 pub struct Tally {
     pub finished: u64,
     pub spent: u64,
@@ -23,32 +23,23 @@ pub struct Tally {
     pub steps: u64,
 }
 
-// The dearest run so far: its term's index, and how many steps make a later run dearer, 0 where none has finished.
+// The dearest run so far: its term's index, and its steps.
 #[derive(Clone, Copy)]
 struct Lead {
     index: u64,
-    least: u64,
+    steps: u64,
 }
 
-// What the runs came to, and the dearest of them.
+// What the runs came to, and the dearest of them, if any finished.
 #[derive(Clone, Copy)]
 struct Runs {
     tally: Tally,
-    lead: Lead,
+    lead: Option<Lead>,
 }
 
-// What the sweep answers.
-#[derive(Clone, Copy)]
-pub enum Sweeping {
-    // Why it is refused; never `Admitted`.
-    Refused(Admission),
-    Swept(Tally),
-}
-
-// What the search for the dearest term answers: its text, zeros behind it, and the steps of its run. Beside a refusal all of them are 0.
+// The dearest small term: its text, zeros behind it, and the steps of its run.
 #[derive(Clone, Copy)]
 pub struct Finding {
-    pub admission: Admission,
     pub text: [u8; small_texts::LARGEST_SIZE],
     pub steps: u64,
 }
@@ -60,52 +51,45 @@ fn run_one(n: usize, index: u64, area: &mut [u8], work: &mut [u8], fuel: u64) ->
     ensures { Ran n index fuel (length area.old) (outcome_of result.outcome) result.count }
 {
     small_texts::write_text(&mut area[..n], index);
-    let finishing = finishing::finish(area, n, work, fuel);
-    finishing.run
+    finishing::finish(area, n, work, fuel).unwrap()
 }
 
 // A tally with one run more.
-fn counted(tally: Tally, outcome: Outcome, count: u64) -> Tally
+fn counted(tally: Tally, run: Run) -> Tally
     requires few { Few most_terms (swept_in tally) }
-    requires count_le_fuel_limit { count ≤ fuel_limit }
-    ensures { swept_in result ≡ with_run (outcome_of outcome) count (swept_in tally) }
+    requires count_le_fuel_limit { run.count ≤ fuel_limit }
+    ensures { swept_in result ≡ with_run (outcome_of run.outcome) run.count (swept_in tally) }
 {
-    match outcome {
+    match run.outcome {
         Outcome::Finished => Tally {
             finished: tally.finished + 1,
-            spent: tally.spent,
-            no_room: tally.no_room,
-            steps: tally.steps + count,
+            steps: tally.steps + run.count,
+            ..tally
         },
         Outcome::Spent => Tally {
-            finished: tally.finished,
             spent: tally.spent + 1,
-            no_room: tally.no_room,
-            steps: tally.steps,
+            ..tally
         },
         Outcome::NoRoom => Tally {
-            finished: tally.finished,
-            spent: tally.spent,
             no_room: tally.no_room + 1,
-            steps: tally.steps,
+            ..tally
         },
     }
 }
 
 // The dearest run so far, with one more. It goes on leading unless the later run makes more steps.
-fn overtaken(lead: Lead, index: u64, outcome: Outcome, count: u64) -> Lead
-    requires { count ≤ fuel_limit }
-    ensures { lead_in result ≡ with_later (outcome_of outcome) index count (lead_in lead) }
+fn overtaken(lead: Option<Lead>, index: u64, run: Run) -> Option<Lead>
+    ensures { lead_in result ≡ with_later (outcome_of run.outcome) index run.count (lead_in lead) }
 {
-    let Outcome::Finished = outcome else {
+    let Outcome::Finished = run.outcome else {
         return lead;
     };
-    if count < lead.least {
-        return lead;
-    }
-    Lead {
-        index,
-        least: count + 1,
+    match lead {
+        Some(first) if run.count <= first.steps => lead,
+        _ => Some(Lead {
+            index,
+            steps: run.count,
+        }),
     }
 }
 
@@ -116,20 +100,12 @@ fn run_all(n: usize, area: &mut [u8], work: &mut [u8], fuel: u64) -> Runs
         × Leads n fuel (length area.old) (ways 1 n) (lead_in result.lead) }
 {
     let terms = small_texts::how_many(n);
-    let mut tally = Tally {
-        finished: 0,
-        spent: 0,
-        no_room: 0,
-        steps: 0,
-    };
-    let mut lead = Lead { index: 0, least: 0 };
-    let mut i = 0;
-    while i < terms {
+    let mut tally = Tally::default();
+    let mut lead = None;
+    for i in 0..terms {
         let run = run_one(n, i, area, work, fuel);
-        let outcome = run.outcome;
-        tally = counted(tally, outcome, run.count);
-        lead = overtaken(lead, i, outcome, run.count);
-        i += 1;
+        tally = counted(tally, run);
+        lead = overtaken(lead, i, run);
     }
     Runs { tally, lead }
 }
@@ -145,39 +121,27 @@ fn run_in(n: usize, area: usize, fuel: u64) -> Runs
 }
 
 // Runs every small term of size n with that fuel in an area of that size.
-pub fn sweep(n: u64, fuel: u64, area: u64) -> Sweeping
+pub fn sweep(n: u64, fuel: u64, area: u64) -> Result<Tally, Refused>
     ensures { answer_of result ≡ sweep_of n fuel area }
 {
-    let admission = small_admission::admit(n, fuel, area);
-    let Admission::Admitted = admission else {
-        return Sweeping::Refused(admission);
-    };
+    small_admission::admit(n, fuel, area)?;
     let runs = run_in(n as usize, area as usize, fuel);
-    let tally = runs.tally;
-    Sweeping::Swept(tally)
+    Ok(runs.tally)
 }
 
 // Finds the small term of size n whose run, with that fuel in an area of that size, finishes with the most steps. Where several do, it is
 // the earliest.
-pub fn dearest(n: u64, fuel: u64, area: u64) -> Finding
+pub fn dearest(n: u64, fuel: u64, area: u64) -> Result<Finding, Refused>
     ensures { found_in result ≡ found_as (dearest_of n fuel area) }
 {
-    let admission = small_admission::admit(n, fuel, area);
-    let mut text = [0u8; small_texts::LARGEST_SIZE];
-    let Admission::Admitted = admission else {
-        return Finding {
-            admission,
-            text,
-            steps: 0,
-        };
-    };
+    small_admission::admit(n, fuel, area)?;
     let size = n as usize;
     let runs = run_in(size, area as usize, fuel);
-    let lead = runs.lead;
+    let lead = runs.lead.unwrap();
+    let mut text = [0u8; small_texts::LARGEST_SIZE];
     small_texts::write_text(&mut text[..size], lead.index);
-    Finding {
-        admission,
+    Ok(Finding {
         text,
-        steps: lead.least - 1,
-    }
+        steps: lead.steps,
+    })
 }

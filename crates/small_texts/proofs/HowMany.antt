@@ -7,6 +7,7 @@ use mathlib.Core.Path.{◌≡◌, refl, sym, ◌∙◌, ap, ap₂}
 use mathlib.Core.List.{List, [], ◌∷◌, ◌++◌, map}
 use lib.ListN.{length, get_or, length-append, length-map, get_or-append}
 use lib.Seq.{get_or-append_seam}
+use Rattle.std.proofs.lemmas.List.{get_or_past}
 use Rattle.calculus.specs.Letter.{Letter, byte, owed}
 use Rattle.reading.proofs.Scan.{owed_sum}
 use Rattle.small_texts.specs.Texts.{letters, led, texts, ways}
@@ -105,3 +106,14 @@ table-row (suc m) n h = go (dec_le m n) (λ before. table-row m n before)
 -- each number stands in its place
 pub table_at : (m n k : ℕ) → n < m → k < 8 → get_or (get_or (table m) n []) k 0 ≡ ways k n
 table_at m n k h few = ap (λ (numbers : List ℕ). get_or numbers k 0) (table-row m n h) ∙ row_at n 8 k few
+
+-- and beside them there is no way
+pub any-row : (n k : ℕ) → n < 8 → get_or (get_or (table 8) n []) k 0 ≡ ways k n
+any-row n k h = go (dec_le 8 k)
+  where
+    go : Dec (8 ≤ k) → get_or (get_or (table 8) n []) k 0 ≡ ways k n
+    go (yes many) =
+        ap (λ (numbers : List ℕ). get_or numbers k 0) (table-row 8 n h)
+        ∙ get_or_past (row n 8) k 0 (omega (arith, length-row n 8))
+        ∙ sym (ways-none n k (omega arith))
+    go (no few) = table_at 8 n k h (omega arith)

@@ -1,13 +1,12 @@
 -- The text with an index: it is that of a small term, and what is written in place of a slice that is as long. Carried by how many there
 -- are (`length-texts`) and by what the list holds (`listed_small`). Assumes nothing.
 use Prim.Native.Nat.{ℕ, ◌≤◌, ◌<◌}
-use native.Mathlib.Decide.{dec_le}
 use native.Mathlib.Omega.{arith}
 use mathlib.Core.Path.{◌≡◌, sym, ◌∙◌, ap}
 use mathlib.Core.Bool.{Bool, cond}
 use mathlib.Core.List.{List, []}
 use lib.ListN.{length, get_or, length-map, get_or-map}
-use borrow.Author.Tests.{le-leb, lt-leb, lt-ltb, le-ltb}
+use borrow.Author.Tests.{le-leb, lt-ltb}
 use Rattle.calculus.specs.Term.{Term, text}
 use Rattle.calculus.proofs.PrefixCode.{length-text}
 use Rattle.small_texts.specs.Small.{Small, Before}
@@ -58,29 +57,9 @@ small_at n i = get_or-map term_in (texts 1 n) i []
 pub how_many_lem : (n : ℕ) → n ≤ largest_size → ways 1 n ≡ how_many n
 how_many_lem n h = ap (λ (b : Bool). cond b (ways 1 n) 0) (sym (le-leb n largest_size h))
 
--- over it there are none
-pub too_many : (n : ℕ) → largest_size < n → 0 ≡ how_many n
-too_many n h = ap (λ (b : Bool). cond b (ways 1 n) 0) (sym (lt-leb n largest_size h))
-
--- where a text has that index, the size is not over the largest, and the index is below the ways
-pub has_index : (n i : ℕ) → i < how_many n → (n ≤ largest_size) × (i < ways 1 n)
-has_index n i h = go (dec_le n largest_size)
-  where
-    go : Dec (n ≤ largest_size) → (n ≤ largest_size) × (i < ways 1 n)
-    go (yes small) = (small, omega (arith, how_many_lem n small))
-    go (no larger) = absurd (omega (arith, too_many n (omega arith)))
-
-module _ (i : ℕ) (s : List ℕ) where
-  abbrev chosen : Bool → List ℕ
-  chosen b = cond b (text_at (length s) i) s
-
-  -- where there is no text, the slice stays
-  pub none_written : how_many (length s) ≤ i → s ≡ written i s
-  none_written h = ap chosen (sym (le-ltb i (how_many (length s)) h))
-
-  -- else the text is written
-  pub one_written : i < how_many (length s) → text_at (length s) i ≡ written i s
-  one_written h = ap chosen (sym (lt-ltb i (how_many (length s)) h))
+-- where there is a text, it is written
+pub one_written : (i : ℕ) (s : List ℕ) → i < how_many (length s) → text_at (length s) i ≡ written i s
+one_written i s h = ap (λ (b : Bool). cond b (text_at (length s) i) s) (sym (lt-ltb i (how_many (length s)) h))
 
 -- so it is to a slice of a small size
 pub text-written : (n i : ℕ) (s : List ℕ) → length s ≡ n → n ≤ largest_size → i < ways 1 n → written i s ≡ text_at n i

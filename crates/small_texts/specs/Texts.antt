@@ -14,10 +14,6 @@ largest_size = 7
 abbrev pub letters : List Letter
 letters = Letter.stop ∷ Letter.A ∷ Letter.B ∷ Letter.H ∷ Letter.I ∷ Letter.J ∷ Letter.R ∷ []
 
--- the byte of the letter with that index, from 0
-abbrev pub letter_at : ℕ → ℕ
-letter_at i = get_or (map byte letters) i 0
-
 -- the texts that begin with one of these letters and go on as it allows
 abbrev pub led : List Letter → (Letter → List (List ℕ)) → List (List ℕ)
 led [] onward = []

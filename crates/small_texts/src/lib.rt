@@ -2,7 +2,7 @@
 #![tactic(auto)]
 
 ghost use Rattle.std.specs.Prelude.{◌≡◌, suc, ◌≤◌, ◌<◌, length};
-ghost use Rattle.small_texts.specs.Texts.{largest_size, letter_at, text_at};
+ghost use Rattle.small_texts.specs.Texts.{largest_size, text_at};
 ghost use Rattle.small_texts.specs.Texts.{ways as ways_of};
 ghost use Rattle.small_texts.specs.Writing.{how_many, written, Chosen};
 
@@ -13,8 +13,6 @@ pub const LARGEST_SIZE: usize = 7;
 
 // The letters that are no bells, in the order of their bytes.
 const LETTERS: [u8; 7] = [STOP, A, B, H, I, J, R];
-
-const LAST_LETTER: usize = 6;
 
 // How many texts of k terms have n letters: number k of row n.
 const WAYS: [[u64; 8]; 8] = [
@@ -33,10 +31,7 @@ fn ways(k: usize, n: usize) -> u64
     requires { n ≤ largest_size }
     ensures { result ≡ ways_of k n }
 {
-    if n < k {
-        return 0;
-    }
-    WAYS[n][k]
+    WAYS[n].get(k).copied().unwrap_or(0)
 }
 
 // How many small terms have n letters.
@@ -49,18 +44,11 @@ pub fn how_many(n: usize) -> u64
     ways(1, n)
 }
 
-// The letter with that index, from 0.
-fn letter(i: usize) -> u8
-    requires { i < 7 }
-    ensures { result ≡ letter_at i }
-{
-    LETTERS[i]
-}
-
-// A letter of a text, and the index of what stands behind it among all that can.
+// A letter of a text, how many terms are owed behind it, and the index of what stands there among all that can.
 #[derive(Clone, Copy)]
 struct Choice {
     letter: u8,
+    owing: usize,
     index: u64,
 }
 
@@ -68,27 +56,23 @@ struct Choice {
 fn choose(owing: usize, rest: usize, index: u64) -> Choice
     requires rest_lt_largest_size { rest < largest_size }
     requires index_bound { index < ways_of owing (suc rest) }
-    ensures { Chosen owing rest index result.letter result.index }
+    ensures { Chosen owing rest index result.letter result.owing result.index }
 {
     let others = owing - 1;
     let mut left = index;
-    let mut i = 0;
-    while i < LAST_LETTER {
-        let b = letter(i);
-        let begun = ways(others + reading::arity(b), rest);
+    for b in LETTERS {
+        let owed = others + reading::arity(b).unwrap();
+        let begun = ways(owed, rest);
         if left < begun {
             return Choice {
                 letter: b,
+                owing: owed,
                 index: left,
             };
         }
         left -= begun;
-        i += 1;
     }
-    Choice {
-        letter: letter(LAST_LETTER),
-        index: left,
-    }
+    unreachable!()
 }
 
 // Writes the text with that index, from 0, among those of one term as long as the slice.
@@ -97,16 +81,14 @@ fn write_letters(text: &mut [u8], index: u64)
     requires index_bound { index < ways_of 1 (length text.old) }
     ensures { text.new ≡ text_at (length text.old) index }
 {
+    let n = text.len();
     let mut owing = 1;
     let mut left = index;
-    let mut at = 0;
-    while at < text.len() {
-        let choice = choose(owing, text.len() - at - 1, left);
-        let b = choice.letter;
-        text[at] = b;
-        owing = owing - 1 + reading::arity(b);
+    for (at, b) in text.iter_mut().enumerate() {
+        let choice = choose(owing, n - at - 1, left);
+        *b = choice.letter;
+        owing = choice.owing;
         left = choice.index;
-        at += 1;
     }
 }
 

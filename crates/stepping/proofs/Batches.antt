@@ -33,10 +33,6 @@ advances-none {area} {len} {t} (made, counted, sized) h =
       held = subst (λ (n : ℕ). Holds area n t) (sym sized) h;
     }
 
--- what was read is not refused
-pub read-answered : {n number place : ℕ} {r : Reply ℕ} → Reply.answered n ≡ r → r ≡ Reply.refused number place → ⊥
-read-answered answer e = let z : ◌≡◌ {A = ℕ} 0 1 = cc (answer ∙ e) in omega arith
-
 module _ (area : List ℕ) (len : ℕ) {n : ℕ} (within : len ≤ length area) (read : Reply.answered n ≡ reading_of (take len area)) where
   -- what was read is as long as it was
   pub read_length : n ≡ len

@@ -1,3 +1,3 @@
-pub mod Stepped
+pub mod Ending
 pub mod Calls
 mod Batches

@@ -6,22 +6,22 @@ ghost use Rattle.calculus.specs.Limits.{area_limit, fuel_limit};
 ghost use Rattle.calculus.specs.Counts.{tally};
 ghost use Rattle.calculus.specs.Term.{Term};
 ghost use Rattle.calculus.specs.Order.{next};
-ghost use Rattle.reading.specs.Reply.{Reply, number_in, place_in};
+ghost use Rattle.reading.specs.Reply.{Reply};
 ghost use Rattle.reading.specs.Reading.{reading_of};
 ghost use Rattle.stepping.specs.Held.{Holds};
 ghost use Rattle.stepping.specs.Stepping.{After, step_next, stepping_of};
-ghost use Rattle.stepping.specs.Answer.{answer_of};
+ghost use Rattle.stepping.specs.Answer.{refusal_of, stepped_of, answer_of};
 ghost use Rattle.stepping.specs.Batch.{Advances};
 
 use filling::clear;
-use reading::Reading;
+use reading::{Misread, Refusal};
 use reducing::next_rewrite;
-use rewriting::{NO_RULE, growth};
+use rewriting::growth;
 use writing::write_back;
 
-// What stepping answers; specs/Answer.antt gives the number and the values of each case.
+// What stepping refuses; specs/Answer.antt gives the number and the place of each case.
 #[derive(Clone, Copy)]
-pub enum Stepping {
+pub enum Refused {
     // The term area is over 16,384 bytes.
     AreaTooLong,
     // The work area is shorter than the term area.
@@ -29,7 +29,32 @@ pub enum Stepping {
     // The length exceeds the term area.
     LengthTooLong,
     // What reading refused, unaltered.
-    Unread(Reading),
+    Unread(Misread),
+}
+
+impl Refusal for Refused {
+    ghost refusal = { refusal_of };
+
+    fn number(&self) -> u64 {
+        match *self {
+            Refused::AreaTooLong => 1,
+            Refused::WorkTooShort => 2,
+            Refused::LengthTooLong => 3,
+            Refused::Unread(misread) => misread.number(),
+        }
+    }
+
+    fn place(&self) -> usize {
+        match *self {
+            Refused::AreaTooLong | Refused::WorkTooShort | Refused::LengthTooLong => 0,
+            Refused::Unread(misread) => misread.place(),
+        }
+    }
+}
+
+// What stepping answers; specs/Answer.antt gives the values of each case.
+#[derive(Clone, Copy)]
+pub enum Stepped {
     // The term has no next step; its size.
     Normal(usize),
     // The next term is larger than the area; the size of the term, which stays.
@@ -38,66 +63,43 @@ pub enum Stepping {
     Done(u8, usize),
 }
 
-// The number of a refusal, 0 of an answer.
-pub fn number(answer: Stepping) -> u64
-    ensures { result ≡ number_in (answer_of answer) }
-{
-    match answer {
-        Stepping::AreaTooLong => 1,
-        Stepping::WorkTooShort => 2,
-        Stepping::LengthTooLong => 3,
-        Stepping::Unread(reading) => reading::number(reading),
-        Stepping::Normal(_) | Stepping::NoRoom(_) | Stepping::Done(_, _) => 0,
-    }
-}
-
-// The place of a refusal, 0 of an answer and of what is refused without a place.
-pub fn place(answer: Stepping) -> usize
-    ensures { result ≡ place_in (answer_of answer) }
-{
-    let Stepping::Unread(reading) = answer else {
-        return 0;
-    };
-    reading::place(reading)
-}
-
 // One step of the term in the first `len` bytes, or what keeps it from one.
-fn advance(area: &mut [u8], len: usize, work: &mut [u8]) -> Stepping
+fn advance(area: &mut [u8], len: usize, work: &mut [u8]) -> Stepped
     requires { (len ≤ length area.old) × (length area.old ≤ length work.old) × (length area.old ≤ area_limit) }
     ensures { (t : Term) → Holds area.old len t
-        → After.after (answer_of result) area.new work.new ≡ step_next t (next t) area.old work.old }
+        → After.after (Reply.answered (stepped_of result)) area.new work.new ≡ step_next t (next t) area.old work.old }
 {
-    let w = next_rewrite(&area[..len]);
-    if w.rule == NO_RULE {
+    let Some(w) = next_rewrite(&area[..len]) else {
         clear(area, len, work);
-        return Stepping::Normal(len);
-    }
+        return Stepped::Normal(len);
+    };
     if area.len() - len < growth(w) {
         clear(area, len, work);
-        return Stepping::NoRoom(len);
+        return Stepped::NoRoom(len);
     }
     let size = write_back(area, len, w, work);
-    Stepping::Done(w.rule, size)
+    Stepped::Done(w.rule, size)
 }
 
 // One step of the term in the first `len` bytes of the area. A refusal leaves both areas as they are.
-pub fn step(area: &mut [u8], len: usize, work: &mut [u8]) -> Stepping
+#[tactic(auto, unfolding(crate::specs::Stepping::stepping_of))]
+pub fn step(area: &mut [u8], len: usize, work: &mut [u8]) -> Result<Stepped, Refused>
     ensures { After.after (answer_of result) area.new work.new ≡ stepping_of area.old len work.old }
 {
     if calculus::AREA_LIMIT < area.len() {
-        return Stepping::AreaTooLong;
+        return Err(Refused::AreaTooLong);
     }
     if work.len() < area.len() {
-        return Stepping::WorkTooShort;
+        return Err(Refused::WorkTooShort);
     }
     if area.len() < len {
-        return Stepping::LengthTooLong;
+        return Err(Refused::LengthTooLong);
     }
     let reading = reading::read(&area[..len]);
-    let Reading::Whole(size) = reading else {
-        return Stepping::Unread(reading);
+    let Ok(size) = reading else {
+        return Err(Refused::Unread(reading.unwrap_err()));
     };
-    advance(area, size, work)
+    Ok(advance(area, size, work))
 }
 
 // What several steps at once have come to: how many were made, how often each rule was used, rule 1 first, and the size of the term
@@ -120,16 +122,6 @@ fn no_steps(len: usize) -> Batch
     }
 }
 
-// No more than the fuel of a run.
-fn at_most_fuel(most: u64) -> u64
-    ensures { (result ≤ most) × (result ≤ fuel_limit) }
-{
-    if calculus::FUEL_LIMIT < most {
-        return calculus::FUEL_LIMIT;
-    }
-    most
-}
-
 // Up to `most` steps at once of the term in the first `len` bytes. It may stop early, and decides no outcome. None are
 // made where one alone is asked for, which `step` does sooner, nor of bytes that are no term.
 pub fn steps(area: &mut [u8], len: usize, most: u64) -> Batch
@@ -138,18 +130,14 @@ pub fn steps(area: &mut [u8], len: usize, most: u64) -> Batch
     ensures unread { (number place : ℕ) → reading_of (take len area.old) ≡ Reply.refused number place
         → (area.new ≡ area.old) × (result.made ≡ 0) }
 {
-    if most <= 1 {
+    if most <= 1 || area.len() < len {
         return no_steps(len);
     }
-    if area.len() < len {
-        return no_steps(len);
-    }
-    let reading = reading::read(&area[..len]);
-    let Reading::Whole(size) = reading else {
+    let Ok(size) = reading::read(&area[..len]) else {
         return no_steps(len);
     };
     let mut by_rule = [0u32; calculus::RULES];
-    let made = arenas::advance(area, size, &mut by_rule, at_most_fuel(most));
+    let made = arenas::advance(area, size, &mut by_rule, most.min(calculus::FUEL_LIMIT));
     Batch {
         made: made.steps,
         by_rule,

@@ -233,8 +233,11 @@ module _ (store : List ℕ) (long : store_size ≤ length store) (bytes : (i : �
 
 -- ---- the loop
 
--- so many results with so many letters are read of the store, and whatever catalogue it keeps goes on from them
+-- so many results with so many letters are read of the bytes of a store that is long enough, and whatever catalogue it keeps goes on from
+-- them
 pub record Replayed (store : List ℕ) (count used : ℕ) : Type 0 where
+  pub long : store_size ≤ length store
+  pub bytes : (i : ℕ) → get_or store i 0 < 256
   pub results : List Term
   pub catalogue : Catalogue results
   pub begins : Begins store results
@@ -242,9 +245,11 @@ pub record Replayed (store : List ℕ) (count used : ℕ) : Type 0 where
   pub lettered : letters results ≡ used
   pub only : (whole : List Term) → Keeps store whole → Later results whole
 
-pub replay_start : (store : List ℕ) → Replayed store 0 0
-replay_start store =
+pub replay_start : (store : List ℕ) → store_size ≤ length store → ((i : ℕ) → get_or store i 0 < 256) → Replayed store 0 0
+replay_start store long bytes =
     record {
+      long = long;
+      bytes = bytes;
       results = [];
       catalogue = Catalogue.empty;
       begins = record { entries = refl; texts = part-empty texts_at texts_at store (omega arith) };
@@ -253,169 +258,174 @@ replay_start store =
       only = λ whole keeps. later-all whole;
     }
 
-module _
-    (store : List ℕ) (long : store_size ≤ length store) (bytes : (i : ℕ) → get_or store i 0 < 256)
-    {count used : ℕ} (so_far : Replayed store count used)
-  where
-    abbrev read : List Term
-    read = so_far.results
+module _ {store : List ℕ} {count used : ℕ} (so_far : Replayed store count used) where
+  abbrev long : store_size ≤ length store
+  long = so_far.long
 
-    pub replay-within : (count ≤ entry_limit) × (used ≤ letter_limit)
-    replay-within =
-        let within = catalogue-fits so_far.catalogue in
-        (omega (arith, so_far.counted, within.0), omega (arith, so_far.lettered, within.1))
+  abbrev bytes : (i : ℕ) → get_or store i 0 < 256
+  bytes = so_far.bytes
 
-    -- a size that is not 0 is that of an entry
-    pub replay-few : (n : ℕ) → n ≡ size_at count store → ¬ (n ≡ 0) → count < entry_limit
-    replay-few n e some_size = go (dec_le entry_limit count)
+  abbrev read : List Term
+  read = so_far.results
+
+  pub replay-within : (count ≤ entry_limit) × (used ≤ letter_limit)
+  replay-within =
+      let within = catalogue-fits so_far.catalogue in
+      (omega (arith, so_far.counted, within.0), omega (arith, so_far.lettered, within.1))
+
+  -- a size that is not 0 is that of an entry
+  pub replay-few : (n : ℕ) → n ≡ size_at count store → ¬ (n ≡ 0) → count < entry_limit
+  replay-few n e some_size = go (dec_le entry_limit count)
+    where
+      go : Dec (entry_limit ≤ count) → count < entry_limit
+      go (yes full) = absurd (some_size (e ∙ size_none count store full))
+      go (no room) = omega arith
+
+  -- the size that is read, and the test, in terms of the results
+  sized : (n : ℕ) → n ≡ size_at count store → size_at (length read) store ≡ n
+  sized n e = ap (λ (k : ℕ). size_at k store) so_far.counted ∙ sym e
+
+  tested : (n : ℕ) → follows (length read) (letters read) n store ≡ follows count used n store
+  tested n = ap₂ (λ (k m : ℕ). follows k m n store) so_far.counted so_far.lettered
+
+  -- what a kept catalogue has next: nothing, or a result that stands there
+  abbrev Next : List Term → Type 0
+  Next whole = (whole ≡ read) ⊎ ((t : Term) × Catalogue (t ∷ read) × Begins store (t ∷ read) × Later (t ∷ read) whole)
+
+  next : {whole : List Term} → Keeps store whole → Later read whole → Next whole
+  next keeps Later.same = inl refl
+  next {whole} keeps (Later.more {t = t} l) =
+      let within = catalogue-fits keeps.catalogue in
+      let laid = stored-laid store whole within.0 within.1 keeps.stored in
+      inr (t, later-catalogue l keeps.catalogue, begins-earlier l laid.begins, l)
+
+  -- where the test fails, none is kept
+  pub replay-stop :
+      (n : ℕ) → n ≡ size_at count store → ¬ (n ≡ 0) → follows count used n store ≡ false → (whole : List Term) → Keeps store whole → ⊥
+  replay-stop n e some_size fails whole keeps = go (next keeps (so_far.only whole keeps))
+    where
+      go : Next whole → ⊥
+      go (inl same-results) = some_size (sym (sized n e) ∙ last-size store long bytes read (subst (Keeps store) same-results keeps))
+      go (inr (t, c, b, l)) =
+          let (size_is, passes) = stands-follows store long bytes t read c b in
+          let n-is : n ≡ size t = sym (sized n e) ∙ size_is in
+          false≢true (sym fails ∙ sym (tested n) ∙ ap (λ (k : ℕ). follows (length read) (letters read) k store) n-is ∙ passes)
+
+  -- where it holds, one more is read
+  pub replay-turn :
+      (n : ℕ) → n ≡ size_at count store → ¬ (n ≡ 0) → follows count used n store ≡ true → Replayed store (count + 1) (used + n)
+  replay-turn n e some_size passes =
+      let few = replay-few n e some_size in
+      let (t, c, b, length-is) =
+      one_more store long bytes read so_far.catalogue so_far.begins n (omega (arith, so_far.counted)) (sized n e) (tested n ∙ passes) in
+      record {
+        long = long;
+        bytes = bytes;
+        results = t ∷ read;
+        catalogue = c;
+        begins = b;
+        counted = omega (arith, so_far.counted);
+        lettered = omega (arith, so_far.lettered);
+        only = λ whole keeps. goes_on whole keeps t b length-is (next keeps (so_far.only whole keeps));
+      }
+    where
+      -- the result that a kept catalogue has next is the one that was read
+      goes_on :
+          (whole : List Term) → Keeps store whole → (t : Term) → Begins store (t ∷ read) → size t ≡ n → Next whole → Later (t ∷ read) whole
+      goes_on whole keeps t b length-is (inl same-results) =
+          absurd (some_size (sym (sized n e) ∙ last-size store long bytes read (subst (Keeps store) same-results keeps)))
+      goes_on whole keeps t b length-is (inr (u, c, b', l)) =
+          let (size_is, passes') = stands-follows store long bytes u read c b' in
+          let equal-size : size t ≡ size u = length-is ∙ sym (sized n e) ∙ size_is in
+          let equal : t ≡ u =
+          text_injective t u
+          (sym (begins-stands b).spelt
+          ∙ ap (λ (k : ℕ). part (texts_at + letters read) (texts_at + letters read + k) store) equal-size
+          ∙ (begins-stands b').spelt) in
+          subst (λ (v : Term). Later (v ∷ read) whole) (sym equal) l
+
+  -- at the end: the size is 0, and what is kept is what was read
+  module _ (ends : size_at count store ≡ 0) where
+    whole-is-read : (whole : List Term) → Keeps store whole → whole ≡ read
+    whole-is-read whole keeps = go (next keeps (so_far.only whole keeps))
       where
-        go : Dec (entry_limit ≤ count) → count < entry_limit
-        go (yes full) = absurd (some_size (e ∙ size_none count store full))
-        go (no room) = omega arith
-
-    -- the size that is read, and the test, in terms of the results
-    sized : (n : ℕ) → n ≡ size_at count store → size_at (length read) store ≡ n
-    sized n e = ap (λ (k : ℕ). size_at k store) so_far.counted ∙ sym e
-
-    tested : (n : ℕ) → follows (length read) (letters read) n store ≡ follows count used n store
-    tested n = ap₂ (λ (k m : ℕ). follows k m n store) so_far.counted so_far.lettered
-
-    -- what a kept catalogue has next: nothing, or a result that stands there
-    abbrev Next : List Term → Type 0
-    Next whole = (whole ≡ read) ⊎ ((t : Term) × Catalogue (t ∷ read) × Begins store (t ∷ read) × Later (t ∷ read) whole)
-
-    next : {whole : List Term} → Keeps store whole → Later read whole → Next whole
-    next keeps Later.same = inl refl
-    next {whole} keeps (Later.more {t = t} l) =
-        let within = catalogue-fits keeps.catalogue in
-        let laid = stored-laid store whole within.0 within.1 keeps.stored in
-        inr (t, later-catalogue l keeps.catalogue, begins-earlier l laid.begins, l)
-
-    -- where the test fails, none is kept
-    pub replay-stop :
-        (n : ℕ) → n ≡ size_at count store → ¬ (n ≡ 0) → follows count used n store ≡ false → (whole : List Term) → Keeps store whole → ⊥
-    replay-stop n e some_size fails whole keeps = go (next keeps (so_far.only whole keeps))
-      where
-        go : Next whole → ⊥
-        go (inl same-results) = some_size (sym (sized n e) ∙ last-size store long bytes read (subst (Keeps store) same-results keeps))
+        go : Next whole → whole ≡ read
+        go (inl same-results) = same-results
         go (inr (t, c, b, l)) =
             let (size_is, passes) = stands-follows store long bytes t read c b in
-            let n-is : n ≡ size t = sym (sized n e) ∙ size_is in
-            false≢true (sym fails ∙ sym (tested n) ∙ ap (λ (k : ℕ). follows (length read) (letters read) k store) n-is ∙ passes)
+            let nothing : size t ≡ 0 = sym size_is ∙ ap (λ (k : ℕ). size_at k store) so_far.counted ∙ ends in
+            absurd (omega (arith, size_positive t))
 
-    -- where it holds, one more is read
-    pub replay-turn :
-        (n : ℕ) → n ≡ size_at count store → ¬ (n ≡ 0) → follows count used n store ≡ true → Replayed store (count + 1) (used + n)
-    replay-turn n e some_size passes =
-        let few = replay-few n e some_size in
-        let (t, c, b, length-is) =
-        one_more store long bytes read so_far.catalogue so_far.begins n (omega (arith, so_far.counted)) (sized n e) (tested n ∙ passes) in
+    laid : (whole : List Term) → Keeps store whole → Laid store read
+    laid whole keeps =
+        let within = catalogue-fits so_far.catalogue in
+        stored-laid store read within.0 within.1 (keeps.stored ∙ ap store_of (whole-is-read whole keeps))
+
+    -- how many zeros those parts have
+    unused-long : length (part (entry_size * count) texts_at store) ≡ texts_at - entry_size * count
+    unused-long = part_length (entry_size * count) texts_at store (omega arith)
+
+    behind-long : length (part (texts_at + used) store_size store) ≡ store_size - (texts_at + used)
+    behind-long = part_length (texts_at + used) store_size store (omega arith)
+
+    abbrev zeros : List ℕ → Bool
+    zeros s = same s (replicate (length s) 0)
+
+    unused-is : (l : Laid store read) → part (entry_size * count) texts_at store ≡ replicate (texts_at - entry_size * count) 0
+    unused-is l =
+        ap (λ (k : ℕ). part (entry_size * k) texts_at store) (sym so_far.counted)
+        ∙ l.unused
+        ∙ ap (λ (k : ℕ). replicate (texts_at - entry_size * k) 0) so_far.counted
+
+    behind-is : (l : Laid store read) → part (texts_at + used) store_size store ≡ replicate (letter_limit - used) 0
+    behind-is l =
+        ap (λ (k : ℕ). part (texts_at + k) store_size store) (sym so_far.lettered)
+        ∙ l.behind
+        ∙ ap (λ (k : ℕ). replicate (letter_limit - k) 0) so_far.lettered
+
+    pub replay-unused : zeros (part (entry_size * count) texts_at store) ≡ false → (whole : List Term) → Keeps store whole → ⊥
+    replay-unused fails whole keeps =
+        false≢true
+        (sym fails
+        ∙ equal_same (part (entry_size * count) texts_at store) (replicate (length (part (entry_size * count) texts_at store)) 0)
+        (unused-is (laid whole keeps) ∙ ap (λ (k : ℕ). replicate k 0) (sym unused-long)))
+
+    pub replay-behind : zeros (part (texts_at + used) store_size store) ≡ false → (whole : List Term) → Keeps store whole → ⊥
+    replay-behind fails whole keeps =
+        let same-long : letter_limit - used ≡ store_size - (texts_at + used) = omega arith in
+        false≢true
+        (sym fails
+        ∙ equal_same (part (texts_at + used) store_size store) (replicate (length (part (texts_at + used) store_size store)) 0)
+        (behind-is (laid whole keeps) ∙ ap (λ (k : ℕ). replicate k 0) (same-long ∙ sym behind-long)))
+
+    pub replay-keeps :
+        zeros (part (entry_size * count) texts_at store) ≡ true → zeros (part (texts_at + used) store_size store) ≡ true → KeepsSome store count used
+    replay-keeps unused behind =
+        let within = catalogue-fits so_far.catalogue in
+        let same-long : store_size - (texts_at + used) ≡ letter_limit - used = omega arith in
+        let unused-zeros : part (entry_size * count) texts_at store ≡ replicate (texts_at - entry_size * count) 0 =
+        same_equal (part (entry_size * count) texts_at store) (replicate (length (part (entry_size * count) texts_at store)) 0) unused
+        ∙ ap (λ (k : ℕ). replicate k 0) unused-long in
+        let behind-zeros : part (texts_at + used) store_size store ≡ replicate (letter_limit - used) 0 =
+        same_equal (part (texts_at + used) store_size store) (replicate (length (part (texts_at + used) store_size store)) 0) behind
+        ∙ ap (λ (k : ℕ). replicate k 0) (behind-long ∙ same-long) in
+        let laid_out : Laid store read =
         record {
-          results = t ∷ read;
-          catalogue = c;
-          begins = b;
-          counted = omega (arith, so_far.counted);
-          lettered = omega (arith, so_far.lettered);
-          only = λ whole keeps. goes_on whole keeps t b length-is (next keeps (so_far.only whole keeps));
+          begins = so_far.begins;
+          unused =
+              ap (λ (k : ℕ). part (entry_size * k) texts_at store) so_far.counted
+              ∙ unused-zeros ∙ ap (λ (k : ℕ). replicate (texts_at - entry_size * k) 0) (sym so_far.counted);
+          behind =
+              ap (λ (k : ℕ). part (texts_at + k) store_size store) so_far.lettered
+              ∙ behind-zeros ∙ ap (λ (k : ℕ). replicate (letter_limit - k) 0) (sym so_far.lettered);
+        } in
+        record {
+          long = long;
+          results = read;
+          keeps = record { catalogue = so_far.catalogue; stored = laid-stored store read long within.0 within.1 laid_out };
+          counted = so_far.counted;
+          lettered = so_far.lettered;
         }
-      where
-        -- the result that a kept catalogue has next is the one that was read
-        goes_on :
-            (whole : List Term) → Keeps store whole → (t : Term) → Begins store (t ∷ read) → size t ≡ n → Next whole → Later (t ∷ read) whole
-        goes_on whole keeps t b length-is (inl same-results) =
-            absurd (some_size (sym (sized n e) ∙ last-size store long bytes read (subst (Keeps store) same-results keeps)))
-        goes_on whole keeps t b length-is (inr (u, c, b', l)) =
-            let (size_is, passes') = stands-follows store long bytes u read c b' in
-            let equal-size : size t ≡ size u = length-is ∙ sym (sized n e) ∙ size_is in
-            let equal : t ≡ u =
-            text_injective t u
-            (sym (begins-stands b).spelt
-            ∙ ap (λ (k : ℕ). part (texts_at + letters read) (texts_at + letters read + k) store) equal-size
-            ∙ (begins-stands b').spelt) in
-            subst (λ (v : Term). Later (v ∷ read) whole) (sym equal) l
-
-    -- at the end: the size is 0, and what is kept is what was read
-    module _ (ends : size_at count store ≡ 0) where
-      whole-is-read : (whole : List Term) → Keeps store whole → whole ≡ read
-      whole-is-read whole keeps = go (next keeps (so_far.only whole keeps))
-        where
-          go : Next whole → whole ≡ read
-          go (inl same-results) = same-results
-          go (inr (t, c, b, l)) =
-              let (size_is, passes) = stands-follows store long bytes t read c b in
-              let nothing : size t ≡ 0 = sym size_is ∙ ap (λ (k : ℕ). size_at k store) so_far.counted ∙ ends in
-              absurd (omega (arith, size_positive t))
-
-      laid : (whole : List Term) → Keeps store whole → Laid store read
-      laid whole keeps =
-          let within = catalogue-fits so_far.catalogue in
-          stored-laid store read within.0 within.1 (keeps.stored ∙ ap store_of (whole-is-read whole keeps))
-
-      -- how many zeros those parts have
-      unused-long : length (part (entry_size * count) texts_at store) ≡ texts_at - entry_size * count
-      unused-long = part_length (entry_size * count) texts_at store (omega arith)
-
-      behind-long : length (part (texts_at + used) store_size store) ≡ store_size - (texts_at + used)
-      behind-long = part_length (texts_at + used) store_size store (omega arith)
-
-      abbrev zeros : List ℕ → Bool
-      zeros s = same s (replicate (length s) 0)
-
-      unused-is : (l : Laid store read) → part (entry_size * count) texts_at store ≡ replicate (texts_at - entry_size * count) 0
-      unused-is l =
-          ap (λ (k : ℕ). part (entry_size * k) texts_at store) (sym so_far.counted)
-          ∙ l.unused
-          ∙ ap (λ (k : ℕ). replicate (texts_at - entry_size * k) 0) so_far.counted
-
-      behind-is : (l : Laid store read) → part (texts_at + used) store_size store ≡ replicate (letter_limit - used) 0
-      behind-is l =
-          ap (λ (k : ℕ). part (texts_at + k) store_size store) (sym so_far.lettered)
-          ∙ l.behind
-          ∙ ap (λ (k : ℕ). replicate (letter_limit - k) 0) so_far.lettered
-
-      pub replay-unused : zeros (part (entry_size * count) texts_at store) ≡ false → (whole : List Term) → Keeps store whole → ⊥
-      replay-unused fails whole keeps =
-          false≢true
-          (sym fails
-          ∙ equal_same (part (entry_size * count) texts_at store) (replicate (length (part (entry_size * count) texts_at store)) 0)
-          (unused-is (laid whole keeps) ∙ ap (λ (k : ℕ). replicate k 0) (sym unused-long)))
-
-      pub replay-behind : zeros (part (texts_at + used) store_size store) ≡ false → (whole : List Term) → Keeps store whole → ⊥
-      replay-behind fails whole keeps =
-          let same-long : letter_limit - used ≡ store_size - (texts_at + used) = omega arith in
-          false≢true
-          (sym fails
-          ∙ equal_same (part (texts_at + used) store_size store) (replicate (length (part (texts_at + used) store_size store)) 0)
-          (behind-is (laid whole keeps) ∙ ap (λ (k : ℕ). replicate k 0) (same-long ∙ sym behind-long)))
-
-      pub replay-keeps :
-          zeros (part (entry_size * count) texts_at store) ≡ true → zeros (part (texts_at + used) store_size store) ≡ true → KeepsSome store count used
-      replay-keeps unused behind =
-          let within = catalogue-fits so_far.catalogue in
-          let same-long : store_size - (texts_at + used) ≡ letter_limit - used = omega arith in
-          let unused-zeros : part (entry_size * count) texts_at store ≡ replicate (texts_at - entry_size * count) 0 =
-          same_equal (part (entry_size * count) texts_at store) (replicate (length (part (entry_size * count) texts_at store)) 0) unused
-          ∙ ap (λ (k : ℕ). replicate k 0) unused-long in
-          let behind-zeros : part (texts_at + used) store_size store ≡ replicate (letter_limit - used) 0 =
-          same_equal (part (texts_at + used) store_size store) (replicate (length (part (texts_at + used) store_size store)) 0) behind
-          ∙ ap (λ (k : ℕ). replicate k 0) (behind-long ∙ same-long) in
-          let laid_out : Laid store read =
-          record {
-            begins = so_far.begins;
-            unused =
-                ap (λ (k : ℕ). part (entry_size * k) texts_at store) so_far.counted
-                ∙ unused-zeros ∙ ap (λ (k : ℕ). replicate (texts_at - entry_size * k) 0) (sym so_far.counted);
-            behind =
-                ap (λ (k : ℕ). part (texts_at + k) store_size store) so_far.lettered
-                ∙ behind-zeros ∙ ap (λ (k : ℕ). replicate (letter_limit - k) 0) (sym so_far.lettered);
-          } in
-          record {
-            long = long;
-            results = read;
-            keeps = record { catalogue = so_far.catalogue; stored = laid-stored store read long within.0 within.1 laid_out };
-            counted = so_far.counted;
-            lettered = so_far.lettered;
-          }
 
 -- a store that is too short keeps nothing
 pub short-keeps : (store : List ℕ) → length store < store_size → (results : List Term) → Keeps store results → ⊥

@@ -4,29 +4,27 @@ use native.Mathlib.Omega.{arith}
 use native.Mathlib.Numerals.{add-one}
 use mathlib.Core.Path.{◌≡◌, refl, sym, ◌∙◌, ap, ap₂}
 use mathlib.Core.Bool.{Bool, true, false, cond, not, ◌&&◌}
-use mathlib.Core.Logic.{inl, inr}
-use mathlib.Core.List.{List, [], ◌∷◌}
+use mathlib.Core.List.{List}
 use borrow.Author.Tests.{lt-ltb, le-ltb, le-leb, lt-leb, eq-eqb, ne_eqb}
 use lib.Dec.{leb, eqb}
-use types.Run.{OneOf, miss}
-use denote.Enum.Declared.{tag_of}
+use Rattle.std.specs.Prelude.{Result, Ok, Err, Option, Some, None}
+use Rattle.std.specs.Option.{is_some}
+use Rattle.std.specs.Result.{is_err}
 use Rattle.calculus.specs.Parse.{term_of}
 use Rattle.calculus.proofs.PrefixCode.{term_of-text}
 use Rattle.slices.specs.Part.{part}
-use Rattle.slices.specs.Same.{same}
 use Rattle.words.specs.Word.{word_at}
 use Rattle.fingerprints.specs.Print.{print_of}
 use Rattle.reading.specs.Reply.{Reply}
 use Rattle.reading.specs.Reading.{reading_of}
 use Rattle.reading.specs.Stop.{has_stop}
 use Rattle.reading.specs.Answer.{answer_of as readingAnswer}
-use Rattle.reading.specs.declared.Reading.{Reading}
-use Rattle.reading.specs.declared.Reading.TheVariants.{Whole, NoLetter, NotWhole, Beyond}
-use Rattle.reading.specs.contracts.Reading.{the_type}
+use Rattle.reading.specs.declared.Misread.{Misread}
+use Rattle.reading.specs.declared.Misread.TheVariants.{NoLetter, NotWhole, Beyond}
 use Rattle.reading.proofs.Whole.{whole-term, refused_none}
 use Rattle.entries.specs.Catalogue.{entry_limit, letter_limit}
 use Rattle.entries.specs.Store.{entry_size, texts_at}
-use Rattle.stores.specs.Search.{size_at, is_at, found_in, number_in, is_normal, is_result, follows}
+use Rattle.stores.specs.Search.{size_at, is_at, found_in, number_in, numbered, is_normal, is_result, follows}
 
 -- ---- sizes
 
@@ -38,21 +36,6 @@ module _ (entry : ℕ) (store : List ℕ) where
   pub size_none : entry_limit ≤ entry → size_at entry store ≡ 0
   unfolding size_at
   size_none h = ap (λ (b : Bool). cond b (word_at (entry_size * entry + 4) store) 0) (le-ltb entry entry_limit h)
-
--- ---- a result looked at
-
-module _ (entry start end : ℕ) (store result : List ℕ) (print : ℕ) where
-  pub at_other : ¬ (word_at (entry_size * entry) store ≡ print) → is_at entry start end store result print ≡ false
-  at_other n =
-      ap (λ (b : Bool). b && same (part (texts_at + start) (texts_at + end) store) result) (ne_eqb (word_at (entry_size * entry) store) print n)
-
-  pub at_same :
-      word_at (entry_size * entry) store ≡ print →
-      same (part (texts_at + start) (texts_at + end) store) result ≡ is_at entry start end store result print
-  at_same e =
-      sym
-      (ap (λ (b : Bool). b && same (part (texts_at + start) (texts_at + end) store) result)
-      (eq-eqb (word_at (entry_size * entry) store) print e))
 
 -- ---- the search
 
@@ -96,40 +79,52 @@ module _ (store result : List ℕ) (print : ℕ) where
   found_before left end entry start e f h =
       sym (step left end entry start e f ∙ ap (λ (b : Bool). cond b (entry + 1) (found_in entry start store result print)) h)
 
-  pub found-end : (left end : ℕ) → left ≤ 0 → 0 ≡ found_in left end store result print
-  found-end zero end h = refl
-  found-end (suc left) end h = absurd (omega arith)
+-- a number that is there
+pub next-numbered : (entry : ℕ) → Some (entry + 1) ≡ numbered (entry + 1)
+next-numbered entry = ap Some (add-one entry) ∙ ap numbered (sym (add-one entry))
+
+-- none is there exactly where the number is 0
+pub none-numbered : (n : ℕ) (r : Option ℕ) (b : Bool) → r ≡ numbered n → is_some r ≡ not b → b ≡ eqb n 0
+none-numbered zero r true e k = sym (eq-eqb 0 0 refl)
+none-numbered zero r false e k = let there : false ≡ true = sym (ap is_some e) ∙ k in cc
+none-numbered (suc n) r true e k = let there : true ≡ false = sym (ap is_some e) ∙ k in cc
+none-numbered (suc n) r false e k = sym (ne_eqb (suc n) 0 (λ z. omega arith))
+
+pub numbered-some : (n number : ℕ) → Some number ≡ numbered n → (number ≡ n) × ¬ (n ≡ 0)
+numbered-some zero number e = absurd (cc)
+numbered-some (suc n) number e = (cc, λ z. omega arith)
+
+pub numbered-none : (n : ℕ) → None ≡ numbered n → n ≡ 0
+numbered-none zero e = refl
+numbered-none (suc n) e = cc
 
 -- ---- normal terms
 
--- an answer of reading that is not the first is one of the others
-pub others-unread : (r : Reading) → ((n : ℕ) → r ≡ Whole n → ⊥) → OneOf (1 ∷ 2 ∷ 3 ∷ []) (tag_of the_type r)
-others-unread (Whole n) h = absurd (h n refl)
-others-unread (NoLetter place) h = inl refl
-others-unread (NotWhole place) h = inr (inl refl)
-others-unread (Beyond place) h = inr (inr refl)
-
 -- bytes that reading refuses are no result
-pub refused-result : (bytes : List ℕ) (number place : ℕ) → Reply.refused number place ≡ reading_of bytes → is_result bytes ≡ false
+refused-result : (bytes : List ℕ) (number place : ℕ) → Reply.refused number place ≡ reading_of bytes → is_result bytes ≡ false
 unfolding is_result
 refused-result bytes number place e = ap is_normal (refused_none bytes number place (sym e))
 
 -- of a term's text the full stop decides
-pub whole-result : (bytes : List ℕ) (n : ℕ) → Reply.answered n ≡ reading_of bytes → not (has_stop bytes) ≡ is_result bytes
+whole-result : (bytes : List ℕ) (n : ℕ) → Reply.answered n ≡ reading_of bytes → not (has_stop bytes) ≡ is_result bytes
 unfolding is_result
 whole-result bytes n e =
     let (t, same_text, sized) = whole-term bytes n (sym e) in
     ap (λ (l : List ℕ). not (has_stop l)) same_text
     ∙ sym (ap is_normal (ap term_of same_text ∙ term_of-text t))
 
--- which every answer of reading is but the first
+-- what reading refuses, and what it does not
 pub unread-result :
-    (bytes : List ℕ) (r : Reading) → readingAnswer r ≡ reading_of bytes → OneOf (1 ∷ 2 ∷ 3 ∷ []) (tag_of the_type r) →
-    false ≡ is_result bytes
-unread-result bytes (Whole n) e k = absurd (miss (1 ∷ 2 ∷ 3 ∷ []) 0 tt k)
-unread-result bytes (NoLetter place) e k = sym (refused-result bytes 5 place e)
-unread-result bytes (NotWhole place) e k = sym (refused-result bytes 6 place e)
-unread-result bytes (Beyond place) e k = sym (refused-result bytes 7 place e)
+    (bytes : List ℕ) (r : Result ℕ Misread) → readingAnswer r ≡ reading_of bytes → is_err r ≡ true → false ≡ is_result bytes
+unread-result bytes (Ok n) e k = cc
+unread-result bytes (Err (NoLetter place)) e k = sym (refused-result bytes 5 place e)
+unread-result bytes (Err (NotWhole place)) e k = sym (refused-result bytes 6 place e)
+unread-result bytes (Err (Beyond place)) e k = sym (refused-result bytes 7 place e)
+
+pub read-result :
+    (bytes : List ℕ) (r : Result ℕ Misread) → readingAnswer r ≡ reading_of bytes → is_err r ≡ false → not (has_stop bytes) ≡ is_result bytes
+read-result bytes (Ok n) e k = whole-result bytes n e
+read-result bytes (Err misread) e k = cc
 
 -- ---- an entry behind others, test by test
 

@@ -1,6 +1,7 @@
 -- What is looked up in a store, on its bytes (REQUIREMENTS, Catalogue); on the store of a catalogue these are the notions of trees, by
 -- proofs/Searching.antt and proofs/Replaying.antt.
 use Rattle.std.specs.Prelude.{ℕ, zero, suc, ◌+◌, ◌*◌, ◌-◌, Bool, false, cond, not, ◌&&◌, List, ltb, leb, eqb}
+use Rattle.std.specs.Prelude as std
 use Rattle.std.proofs.Math.Option.{Option, none, some}
 use Rattle.calculus.specs.Term.{Term, text}
 use Rattle.calculus.specs.Parse.{term_of}
@@ -31,6 +32,11 @@ found_in (suc left) end store result print =
 -- the same, where that is within the limits
 unfoldable pub number_in : (count used : ℕ) (store result : List ℕ) (print : ℕ) → ℕ
 number_in count used store result print = cond (leb count entry_limit && leb used letter_limit) (found_in count used store result print) 0
+
+-- a number that is there; none for 0
+abbrev pub numbered : ℕ → std.Option ℕ
+numbered zero = std.None
+numbered (suc n) = std.Some (suc n)
 
 -- whether bytes are the text of a normal term
 abbrev pub is_normal : Option Term → Bool

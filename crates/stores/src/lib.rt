@@ -1,51 +1,32 @@
 // Stores of catalogues: the test whether a store is one that entries leave, and the search for a result. Both are total.
 #![tactic(auto)]
 
-ghost use Rattle.std.specs.Prelude.{◌≡◌, ◌-◌, ◌≤◌, length};
+ghost use Rattle.std.specs.Prelude.{◌≡◌, ◌≤◌};
 ghost use Rattle.slices.specs.Same.{same};
 ghost use Rattle.entries.specs.Catalogue.{entry_limit, letter_limit};
-ghost use Rattle.entries.specs.Store.{store_size};
-ghost use Rattle.stores.specs.Search.{size_at, is_at, number_in, is_result, follows};
+ghost use Rattle.stores.specs.Search.{size_at, is_at, number_in, numbered, is_result, follows};
 ghost use Rattle.stores.specs.Kept.{KeptAs};
 
 use entries::{ENTRY_LIMIT, ENTRY_SIZE, LETTER_LIMIT, STORE_SIZE, TEXTS_AT};
 use fingerprints::fingerprint;
-use reading::Reading;
 use slices::{cut, is_zeros};
 use words::word_at;
 
-// What a store keeps; specs/Kept.antt says what each case stands for.
+// How many results a catalogue has, and how many letters they have together.
 #[derive(Clone, Copy)]
-pub enum Kept {
-    // A catalogue, of so many results with so many letters.
-    Results(usize, usize),
-    // Bytes that no entries leave.
-    Nothing,
-}
-
-// A number of 32 bits as a size.
-fn wide(n: u32) -> usize
-    ensures { result ≡ n }
-{
-    n as usize
+pub struct Kept {
+    pub count: usize,
+    pub used: usize,
 }
 
 // The size of the result with that index, 0 where there is none.
+// Kept: the store itself says 0 where an entry is not used, so an `Option` would have two words for none.
 fn size_at(store: &[u8], entry: usize) -> usize
     ensures { result ≡ size_at entry store.now }
 {
     if entry < ENTRY_LIMIT {
-        return wide(word_at(store, ENTRY_SIZE * entry + 4));
-    }
-    0
-}
-
-// The first number less the second, 0 where that is larger.
-fn minus(a: usize, b: usize) -> usize
-    ensures { result ≡ a - b }
-{
-    if b < a {
-        return a - b;
+        // Kept: no `From` goes from `u32` to `usize`, and `as` is proved to lose nothing.
+        return word_at(store, ENTRY_SIZE * entry + 4) as usize;
     }
     0
 }
@@ -58,12 +39,10 @@ fn same_bytes(a: &[u8], b: &[u8]) -> bool
         return false;
     }
     let mut equal = true;
-    let mut i = 0;
-    while i < a.len() {
-        if a[i] != b[i] {
+    for (x, y) in a.iter().zip(b) {
+        if x != y {
             equal = false;
         }
-        i += 1;
     }
     equal
 }
@@ -79,84 +58,83 @@ fn is_at(store: &[u8], entry: usize, start: usize, end: usize, res: &[u8], print
     same_bytes(cut(store, TEXTS_AT + start, TEXTS_AT + end), res)
 }
 
-// The number of a result among the first so many, which have so many letters; 0 where it is not there. Those with another fingerprint are
-// passed over, and of the others all bytes are compared.
-pub fn number_of(store: &[u8], count: usize, used: usize, res: &[u8], print: u32) -> usize
-    ensures { result ≡ number_in count used store.now res.now print }
+// The number of a result among the first so many, which have so many letters; none where it is not there. Those with another fingerprint
+// are passed over, and of the others all bytes are compared.
+pub fn number_of(store: &[u8], kept: Kept, res: &[u8], print: u32) -> Option<usize>
+    ensures { result ≡ numbered (number_in kept.count kept.used store.now res.now print) }
 {
-    if ENTRY_LIMIT < count {
-        return 0;
+    if ENTRY_LIMIT < kept.count {
+        return None;
     }
-    if LETTER_LIMIT < used {
-        return 0;
+    if LETTER_LIMIT < kept.used {
+        return None;
     }
-    let mut left = count;
-    let mut end = used;
-    while 0 < left {
-        left -= 1;
-        let start = minus(end, size_at(store, left));
-        if is_at(store, left, start, end, res, print) {
-            return left + 1;
+    let mut end = kept.used;
+    for entry in (0..kept.count).rev() {
+        let start = end.saturating_sub(size_at(store, entry));
+        if is_at(store, entry, start, end, res, print) {
+            return Some(entry + 1);
         }
         end = start;
     }
-    0
+    None
 }
 
 // Whether bytes are the text of a normal term.
 fn is_result(bytes: &[u8]) -> bool
     ensures { result ≡ is_result bytes.now }
 {
-    let reading = reading::read(bytes);
-    let Reading::Whole(_) = reading else {
+    if reading::read(bytes).is_err() {
         return false;
-    };
+    }
     !reading::has_stop(bytes)
 }
 
 // Whether an entry with that size could have been made behind so many results with so many letters.
-fn may_follow(store: &[u8], count: usize, used: usize, size: usize) -> bool
-    requires { (count ≤ entry_limit) × (used ≤ letter_limit) }
-    ensures { result ≡ follows count used size store.now }
+fn may_follow(store: &[u8], kept: Kept, size: usize) -> bool
+    requires { (kept.count ≤ entry_limit) × (kept.used ≤ letter_limit) }
+    ensures { result ≡ follows kept.count kept.used size store.now }
 {
-    if LETTER_LIMIT - used < size {
+    if LETTER_LIMIT - kept.used < size {
         return false;
     }
-    let result = cut(store, TEXTS_AT + used, TEXTS_AT + used + size);
+    let result = cut(store, TEXTS_AT + kept.used, TEXTS_AT + kept.used + size);
     if !is_result(result) {
         return false;
     }
     let print = fingerprint(result);
-    if word_at(store, ENTRY_SIZE * count) != print {
+    if word_at(store, ENTRY_SIZE * kept.count) != print {
         return false;
     }
-    number_of(store, count, used, result, print) == 0
+    number_of(store, kept, result, print).is_none()
 }
 
-// Whether the store is one that entries leave: result by result, each must be one that could be entered behind those before it, and
-// zeros must stand behind the last.
-pub fn keeps(store: &[u8]) -> Kept
+// What the store keeps, if it is one that entries leave: result by result, each must be one that could be entered behind those before it,
+// and zeros must stand behind the last.
+pub fn keeps(store: &[u8]) -> Option<Kept>
     ensures { KeptAs store.now result }
 {
     if store.len() < STORE_SIZE {
-        return Kept::Nothing;
+        return None;
     }
-    let mut count = 0;
-    let mut used = 0;
+    let mut kept = Kept { count: 0, used: 0 };
     let mut size = size_at(store, 0);
+    // Kept: a `while`, since each turn goes on by the size that the last one read.
     while size != 0 {
-        if !may_follow(store, count, used, size) {
-            return Kept::Nothing;
+        if !may_follow(store, kept, size) {
+            return None;
         }
-        used += size;
-        count += 1;
-        size = size_at(store, count);
+        kept = Kept {
+            count: kept.count + 1,
+            used: kept.used + size,
+        };
+        size = size_at(store, kept.count);
     }
-    if !is_zeros(cut(store, ENTRY_SIZE * count, TEXTS_AT)) {
-        return Kept::Nothing;
+    if !is_zeros(cut(store, ENTRY_SIZE * kept.count, TEXTS_AT)) {
+        return None;
     }
-    if !is_zeros(cut(store, TEXTS_AT + used, STORE_SIZE)) {
-        return Kept::Nothing;
+    if !is_zeros(cut(store, TEXTS_AT + kept.used, STORE_SIZE)) {
+        return None;
     }
-    Kept::Results(count, used)
+    Some(kept)
 }

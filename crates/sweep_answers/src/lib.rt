@@ -4,43 +4,35 @@
 ghost use Rattle.std.specs.Prelude.{◌≡◌, ◌≤◌};
 ghost use Rattle.slices.specs.Put.{put, behind};
 ghost use Rattle.small_terms.specs.Sweep.{sweep_of};
-ghost use Rattle.small_admission.specs.Answer.{reply_of};
 ghost use Rattle.small_terms.specs.Answer.{swept_in};
-ghost use Rattle.sweep_answers.specs.Shown.{refusal_line, swept_line, shown_sweep, printed_sweep};
+ghost use Rattle.sweep_answers.specs.Shown.{swept_line, shown_sweep, printed_sweep};
 
-use small_admission::Admission;
-use small_terms::{Sweeping, Tally};
-use sweep_line::Asked;
+use answer_lines::print_refusal;
+use small_admission::Refused;
+use small_terms::Tally;
+use sweep_line::Request;
 
 // The line for what the input asks for, put at the start of `out`; answered is its length. Where it does not fit, `out` stays and 0 is
 // answered.
-pub fn answer_sweep(asked: Asked, out: &mut [u8]) -> usize
+pub fn answer_sweep(asked: Option<Request>, out: &mut [u8]) -> usize
     ensures { (out.new ≡ put 0 (printed_sweep asked) out.old)
         × (result ≡ behind 0 (printed_sweep asked) out.old) }
 {
-    let Asked::Request { size, fuel, area } = asked else {
-        return print_refusal(Admission::NotSmall, out);
-    };
-    print_sweep(size, fuel, area, out)
-}
-
-// The line of the sweep for three numbers.
-fn print_sweep(size: u64, fuel: u64, area: u64, out: &mut [u8]) -> usize
-    ensures { (out.new ≡ put 0 (shown_sweep «size» (sweep_of «size» fuel area)) out.old)
-        × (result ≡ behind 0 (shown_sweep «size» (sweep_of «size» fuel area)) out.old) }
-{
-    match small_terms::sweep(size, fuel, area) {
-        Sweeping::Refused(admission) => print_refusal(admission, out),
-        Sweeping::Swept(tally) => print_tally(size, tally, out),
+    match asked {
+        Some(request) => print_sweep(request, out),
+        None => print_refusal(&Refused::NotSmall, out),
     }
 }
 
-// The line of a refusal; each has the place 0.
-pub fn print_refusal(admission: Admission, out: &mut [u8]) -> usize
-    ensures { (out.new ≡ put 0 (refusal_line (reply_of admission)) out.old)
-        × (result ≡ behind 0 (refusal_line (reply_of admission)) out.old) }
+// The line of the sweep for three numbers.
+fn print_sweep(request: Request, out: &mut [u8]) -> usize
+    ensures { (out.new ≡ put 0 (shown_sweep request.size (sweep_of request.size request.fuel request.area)) out.old)
+        × (result ≡ behind 0 (shown_sweep request.size (sweep_of request.size request.fuel request.area)) out.old) }
 {
-    printing::print_numbers(b"refused", small_admission::number(admission), 0, out)
+    match small_terms::sweep(request.size, request.fuel, request.area) {
+        Ok(tally) => print_tally(request.size, tally, out),
+        Err(refused) => print_refusal(&refused, out),
+    }
 }
 
 // The line of a tally: the size, the four numbers, and the steps divided by the finished runs, with what is left.

@@ -2,44 +2,35 @@
 #![tactic(auto)]
 
 ghost use Rattle.std.specs.Prelude.{◌≡◌};
-ghost use Rattle.sweep_line.specs.Answer.{asked_with, asked_of};
+ghost use Rattle.sweep_line.specs.Answer.{asked_of};
 
-use decimals::Parsed;
 use line_states::Line;
 
-// What the whole input asks for.
+// What the whole input asks for. A number over 1,000,000 is 1,000,001.
 #[derive(Clone, Copy)]
-pub enum Asked {
-    // Not one line of three numbers.
-    OtherShape,
-    // A number over 1,000,000 is 1,000,001.
-    Request { size: u64, fuel: u64, area: u64 },
+pub struct Request {
+    pub size: u64,
+    pub fuel: u64,
+    pub area: u64,
 }
 
-// What the line asks for, once all of the input was fed.
-pub fn asked_for(line: Line) -> Asked
+// What the line asks for, once all of the input was fed; none where it is not one line of three numbers.
+pub fn asked_for(line: Line) -> Option<Request>
     ensures { result ≡ asked_of line }
 {
-    match line {
-        Line::InFirst(_) => Asked::OtherShape,
-        Line::InSecond { .. } => Asked::OtherShape,
-        Line::InThird { .. } => Asked::OtherShape,
-        Line::Ended {
-            first,
-            second,
-            third,
-            ..
-        } => asked_with(first, second, decimals::number(third)),
-        Line::Other => Asked::OtherShape,
-    }
-}
-
-// What two numbers ask for with what the third field is.
-fn asked_with(size: u64, fuel: u64, parsed: Parsed) -> Asked
-    ensures { result ≡ asked_with «size» fuel parsed }
-{
-    let Parsed::Number(area) = parsed else {
-        return Asked::OtherShape;
+    let Line::Ended {
+        first,
+        second,
+        third,
+        ..
+    } = line
+    else {
+        return None;
     };
-    Asked::Request { size, fuel, area }
+    let area = decimals::number(third)?;
+    Some(Request {
+        size: first,
+        fuel: second,
+        area,
+    })
 }

@@ -58,12 +58,7 @@ count-few used (n ∷ numbers) (suc k) = count-few used numbers k
 
 -- `Adds counts more sum place`: so many counts are added, and the others are to come
 pub record Adds (counts more sum : List ℕ) (place : ℕ) : Type 0 where
-  pub within : place ≤ length rule_numbers
   pub so_far : sum ≡ first_added place counts more
-
--- none is added
-pub adds_start : (counts more : List ℕ) → Adds counts more counts 0
-adds_start counts more = record { within = omega arith; so_far = refl }
 
 module _ {counts more sum : List ℕ} {place : ℕ} (adds : Adds counts more sum place) where
   -- the next sum is within a run's fuel
@@ -82,7 +77,6 @@ module _ {counts more sum : List ℕ} {place : ℕ} (adds : Adds counts more sum
       let long : length counts ≡ length rule_numbers = ap length both.first in
       let wide : length more ≡ length rule_numbers = ap length both.second in
       record {
-        within = omega arith;
         so_far =
             ap (λ (l : List ℕ). set l place (get_or l place 0 + get_or more place 0)) adds.so_far
             ∙ added_next place counts more (omega arith) (omega arith)
@@ -90,10 +84,8 @@ module _ {counts more sum : List ℕ} {place : ℕ} (adds : Adds counts more sum
       }
 
   -- all are added
-  pub adds-all :
-      length rule_numbers ≤ place → (used later : List ℕ) → counts ≡ tally used → more ≡ tally later → sum ≡ tally (used ++ later)
-  adds-all h used later e f =
-      let end : place ≡ length rule_numbers = omega (arith, adds.within) in
+  pub adds-all : place ≡ length rule_numbers → (used later : List ℕ) → counts ≡ tally used → more ≡ tally later → sum ≡ tally (used ++ later)
+  adds-all end used later e f =
       adds.so_far
       ∙ ap (λ (k : ℕ). first_added k counts more) end
       ∙ ap₂ (first_added (length rule_numbers)) e f

@@ -10,7 +10,7 @@ pub fn count_use(counts: &mut [u32], rule: u8)
     requires { Countable counts.old rule }
     ensures { counts.new ≡ bumped counts.old rule }
 {
-    let place = rule as usize - 1;
+    let place = usize::from(rule) - 1;
     counts[place] += 1;
 }
 
@@ -20,10 +20,8 @@ pub fn added(counts: [u32; calculus::RULES], more: [u32; calculus::RULES]) -> [u
     ensures { (used later : List ℕ) → counts ≡ tally used → more ≡ tally later → result ≡ tally (used ++ later) }
 {
     let mut sum = counts;
-    let mut place = 0;
-    while place < calculus::RULES {
-        sum[place] += more[place];
-        place += 1;
+    for (place, later) in more.iter().enumerate() {
+        sum[place] += *later;
     }
     sum
 }

@@ -19,6 +19,7 @@ use emitting::{Place, emit};
 use tallies::count_use;
 
 // The machine's place, the size of the term reached, how many steps are left, and whether there is another turn.
+// Kept: `go` is a field and no Option around the state, since the state counts where there is no other turn: it says what was reached.
 #[derive(Clone, Copy)]
 pub struct State {
     pub place: Place,
@@ -68,13 +69,7 @@ fn application(cells: &[u64], cur: usize, list: usize) -> Focus
 fn halted(st: State) -> State
     ensures { result ≡ halt st }
 {
-    let place = st.place;
-    State {
-        place,
-        size: st.size,
-        steps: st.steps,
-        go: false,
-    }
+    State { go: false, ..st }
 }
 
 // The part at `cur` comes into focus; what it is a part of goes into the list.

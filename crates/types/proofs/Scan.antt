@@ -12,6 +12,7 @@ use borrow.Author.Tests.{eq-eqb, ne_eqb}
 use lib.Dec.{eqb}
 use lib.ListN.{length, get_or, drop, drop_of_length-le, length-drop, length-append}
 use lib.Seq.{drop-cons, drop-append_seam}
+use Rattle.std.specs.Prelude.{Some, None}
 use Rattle.calculus.specs.Types.{Sign, Simple, sign_text, simple_signs, written, simple_text}
 use Rattle.types.specs.Signs.{atom_if, chosen, sign_of}
 use Rattle.types.specs.Scan.{parts_of_sign, parts_of, behind_sign, behind_simple, index_of, simple_end}
@@ -19,17 +20,17 @@ use Rattle.types.proofs.Parse.{sign_byte}
 
 -- ---- the count of a byte
 
-pub parts-arrow : (b : ℕ) → b ≡ 62 → 2 ≡ parts_of b
+pub parts-arrow : (b : ℕ) → b ≡ 62 → Some 2 ≡ parts_of b
 unfolding parts_of sign_of
 parts-arrow b e = rw (eq-eqb b 62 e)
 
-pub parts_low : (b : ℕ) → (b ≡ 62 → ⊥) → b < 97 → 3 ≡ parts_of b
+pub parts_low : (b : ℕ) → (b ≡ 62 → ⊥) → b < 97 → None ≡ parts_of b
 unfolding parts_of sign_of
 parts_low b n h = rw (ne_eqb b 62 n) (go (eqb b 42) (eqb b 49) (dec_le 97 b))
   where
     go :
         (bind empty : Bool) (low : Dec (97 ≤ b)) →
-        3 ≡ parts_of_sign (chosen bind Sign.bind (chosen empty Sign.empty (atom_if b low (dec_le b 122))))
+        None ≡ parts_of_sign (chosen bind Sign.bind (chosen empty Sign.empty (atom_if b low (dec_le b 122))))
     go true empty low = refl
     go false true low = refl
     go false false (yes low) = absurd (omega arith)
@@ -40,18 +41,18 @@ from_97 : (b : ℕ) → 97 ≤ b → parts_of b ≡ parts_of_sign (atom_if b (de
 unfolding parts_of sign_of
 from_97 b h = rw (ne_eqb b 62 (omega arith), ne_eqb b 42 (omega arith), ne_eqb b 49 (omega arith))
 
-pub parts_high : (b : ℕ) → 122 < b → 3 ≡ parts_of b
+pub parts_high : (b : ℕ) → 122 < b → None ≡ parts_of b
 parts_high b h = sym (from_97 b (omega arith) ∙ go (dec_le 97 b) (dec_le b 122))
   where
-    go : (low : Dec (97 ≤ b)) (high : Dec (b ≤ 122)) → parts_of_sign (atom_if b low high) ≡ 3
+    go : (low : Dec (97 ≤ b)) (high : Dec (b ≤ 122)) → parts_of_sign (atom_if b low high) ≡ None
     go (yes low) (yes high) = absurd (omega arith)
     go (yes low) (no high) = refl
     go (no low) high = refl
 
-pub parts-atom : (b : ℕ) → 97 ≤ b → b ≤ 122 → 0 ≡ parts_of b
+pub parts-atom : (b : ℕ) → 97 ≤ b → b ≤ 122 → Some 0 ≡ parts_of b
 parts-atom b h k = sym (from_97 b h ∙ go (dec_le 97 b) (dec_le b 122))
   where
-    go : (low : Dec (97 ≤ b)) (high : Dec (b ≤ 122)) → parts_of_sign (atom_if b low high) ≡ 0
+    go : (low : Dec (97 ≤ b)) (high : Dec (b ≤ 122)) → parts_of_sign (atom_if b low high) ≡ Some 0
     go (yes low) (yes high) = refl
     go (yes low) (no high) = absurd (high k)
     go (no low) high = absurd (low h)
@@ -66,47 +67,41 @@ at_byte k at s h = ap (behind_simple (suc k)) (drop-cons s at 0 h)
 
 -- a byte that begins no simple type
 pub no_sign :
-    (owed at parts : ℕ) (s : List ℕ) → at < length s → 0 < owed → parts ≡ parts_of (get_or s at 0) → parts ≡ 3 →
+    (owed at : ℕ) (s : List ℕ) → at < length s → 0 < owed → None ≡ parts_of (get_or s at 0) →
     behind_simple owed (drop at s) ≡ none
 unfolding parts_of
-no_sign zero at parts s h owes p e = absurd (omega arith)
-no_sign (suc k) at parts s h owes p e = at_byte k at s h ∙ go (sign_of (get_or s at 0)) (sym p ∙ e)
+no_sign zero at s h owes p = absurd (omega arith)
+no_sign (suc k) at s h owes p = at_byte k at s h ∙ go (sign_of (get_or s at 0)) p
   where
-    go : (o : Option Sign) → parts_of_sign o ≡ 3 → behind_sign o k (λ n. behind_simple n (drop (suc at) s)) ≡ none
+    go : (o : Option Sign) → None ≡ parts_of_sign o → behind_sign o k (λ n. behind_simple n (drop (suc at) s)) ≡ none
     go none e = refl
-    go (some (Sign.name a)) e = absurd (omega arith)
-    go (some Sign.arrow) e = absurd (omega arith)
+    go (some (Sign.name a)) e = cc
+    go (some Sign.arrow) e = cc
     go (some Sign.bind) e = refl
     go (some Sign.empty) e = refl
 
--- the scan goes on behind a sign
+-- the scan goes on behind a sign, which takes no more than two simple types
 pub sign :
-    (owed at parts : ℕ) (s : List ℕ) → at < length s → 0 < owed → parts ≡ parts_of (get_or s at 0) → (parts ≡ 3 → ⊥) →
-    behind_simple (owed - 1 + parts) (drop (at + 1) s) ≡ behind_simple owed (drop at s)
+    (owed at parts : ℕ) (s : List ℕ) → at < length s → 0 < owed → Some parts ≡ parts_of (get_or s at 0) →
+    (parts < 3) × (behind_simple (owed - 1 + parts) (drop (at + 1) s) ≡ behind_simple owed (drop at s))
 unfolding parts_of
-sign zero at parts s h owes p e = absurd (omega arith)
-sign (suc k) at parts s h owes p e = rw (add-one, p) (sym (at_byte k at s h ∙ go (sign_of (get_or s at 0)) (λ q. e (p ∙ q))))
+sign zero at parts s h owes p = absurd (omega arith)
+sign (suc k) at parts s h owes p =
+    let both = go (sign_of (get_or s at 0)) p in
+    (both.0, rw add-one (sym (at_byte k at s h ∙ both.1)))
   where
     go :
-        (o : Option Sign) → (parts_of_sign o ≡ 3 → ⊥) →
-        behind_sign o k (λ n. behind_simple n (drop (suc at) s)) ≡ behind_simple (suc k - 1 + parts_of_sign o) (drop (suc at) s)
-    go none e = absurd (e refl)
-    go (some (Sign.name a)) e = ap (λ (n : ℕ). behind_simple n (drop (suc at) s)) {x = k} (omega arith)
-    go (some Sign.arrow) e = ap (λ (n : ℕ). behind_simple n (drop (suc at) s)) {x = suc (suc k)} (omega arith)
-    go (some Sign.bind) e = absurd (e refl)
-    go (some Sign.empty) e = absurd (e refl)
-
--- no sign takes more than two simple types
-pub parts-few : (b parts : ℕ) → parts ≡ parts_of b → (parts ≡ 3 → ⊥) → parts < 3
-unfolding parts_of
-parts-few b parts p e = rw p (go (sign_of b) (λ q. e (p ∙ q)))
-  where
-    go : (o : Option Sign) → (parts_of_sign o ≡ 3 → ⊥) → parts_of_sign o < 3
-    go none e = absurd (e refl)
-    go (some (Sign.name a)) e = omega arith
-    go (some Sign.arrow) e = omega arith
-    go (some Sign.bind) e = absurd (e refl)
-    go (some Sign.empty) e = absurd (e refl)
+        (o : Option Sign) → Some parts ≡ parts_of_sign o →
+        (parts < 3) × (behind_sign o k (λ n. behind_simple n (drop (suc at) s)) ≡ behind_simple (suc k - 1 + parts) (drop (suc at) s))
+    go none e = cc
+    go (some (Sign.name a)) e =
+        let zero-parts : parts ≡ 0 = cc in
+        (omega arith, ap (λ (n : ℕ). behind_simple n (drop (suc at) s)) {x = k} (omega arith))
+    go (some Sign.arrow) e =
+        let two-parts : parts ≡ 2 = cc in
+        (omega arith, ap (λ (n : ℕ). behind_simple n (drop (suc at) s)) {x = suc (suc k)} (omega arith))
+    go (some Sign.bind) e = cc
+    go (some Sign.empty) e = cc
 
 -- at the end a simple type is still owed
 pub at-end : (owed at : ℕ) (s : List ℕ) → length s ≤ at → 0 < owed → behind_simple owed (drop at s) ≡ none

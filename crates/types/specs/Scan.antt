@@ -1,20 +1,21 @@
 -- Where the simple type ends that stands at a place of any bytes. The bytes are taken from the first to the last, with a count of the
 -- simple types still owed.
 -- REQUIREMENTS, Types.
-use Rattle.std.specs.Prelude.{ℕ, zero, suc, ◌-◌, List, [], ◌∷◌, length, drop}
+use Rattle.std.specs.Prelude.{ℕ, zero, suc, ◌-◌, List, [], ◌∷◌, length, drop, Some, None}
+use Rattle.std.specs.Prelude as std
 use Rattle.std.proofs.Math.Option.{Option, none, some}
 use Rattle.calculus.specs.Types.{Sign}
 use Rattle.types.specs.Signs.{sign_of}
 
--- how many simple types a sign takes to make one, with 3 for what begins no simple type
-abbrev pub parts_of_sign : Option Sign → ℕ
-parts_of_sign none = 3
-parts_of_sign (some (Sign.name a)) = 0
-parts_of_sign (some Sign.arrow) = 2
-parts_of_sign (some Sign.bind) = 3
-parts_of_sign (some Sign.empty) = 3
+-- how many simple types a sign takes to make one, and none for what begins no simple type
+abbrev pub parts_of_sign : Option Sign → std.Option ℕ
+parts_of_sign none = None
+parts_of_sign (some (Sign.name a)) = Some 0
+parts_of_sign (some Sign.arrow) = Some 2
+parts_of_sign (some Sign.bind) = None
+parts_of_sign (some Sign.empty) = None
 
-unfoldable pub parts_of : ℕ → ℕ
+unfoldable pub parts_of : ℕ → std.Option ℕ
 parts_of b = parts_of_sign (sign_of b)
 
 -- what stands behind a sign, where k simple types are owed behind the one that it begins

@@ -30,6 +30,7 @@ pub fn is_context(s: &[u8]) -> bool
     ensures { result ≡ is_some (context_of s.now) }
 {
     let mut at = 0;
+    // Kept: a `while`, since each turn goes on behind a simple type.
     while at < s.len() {
         if s[at] == marks::EMPTY {
             return at + 1 == s.len();
@@ -47,36 +48,30 @@ pub fn simple_end(s: &[u8], from: usize) -> usize
     ensures { result ≡ simple_end s.now from }
 {
     let mut owed: usize = 1;
-    let mut at = from;
-    while 0 < owed {
-        if s.len() <= at {
+    for at in from..s.len() {
+        let Some(parts) = parts_of(s[at]) else {
             return s.len() + 1;
-        }
-        let parts = parts_of(s[at]);
-        if parts == NO_SIGN {
-            return s.len() + 1;
-        }
+        };
         owed = owed - 1 + parts;
-        at += 1;
+        if owed == 0 {
+            return at + 1;
+        }
     }
-    at
+    s.len() + 1
 }
 
-// What stands in the place of a number of parts for a byte that begins no simple type.
-const NO_SIGN: usize = 3;
-
-// How many simple types the sign takes to make one; `NO_SIGN` for a byte that begins no simple type.
-fn parts_of(b: u8) -> usize
+// How many simple types the sign takes to make one; none for a byte that begins no simple type.
+fn parts_of(b: u8) -> Option<usize>
     ensures { result ≡ parts_of b }
 {
     if b == marks::ARROW {
-        return 2;
+        return Some(2);
     }
     if b < marks::FIRST_ATOM {
-        return NO_SIGN;
+        return None;
     }
     if marks::LAST_ATOM < b {
-        return NO_SIGN;
+        return None;
     }
-    0
+    Some(0)
 }

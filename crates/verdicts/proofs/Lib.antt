@@ -1,4 +1,3 @@
 pub mod Calls
 pub mod Turning
-pub mod Verdicts
 pub mod Ending

@@ -1,12 +1,17 @@
--- The number and the word of each case of comparing's answer (REQUIREMENTS, Comparing).
+-- The word of each verdict, and what comparing answers (REQUIREMENTS, Comparing).
+use Rattle.std.specs.Prelude.{Result, Ok, Err}
 use Rattle.reading.specs.Reply.{Reply, passed_on}
-use Rattle.admission.specs.Answer.{reply_of}
+use Rattle.admission.specs.Answer.{refusal_of}
+use Rattle.admission.specs.declared.Refused.{Refused}
 use Rattle.verdicts.specs.Comparing.{Compared}
-use Rattle.verdicts.specs.declared.Comparing.{Comparing}
-use Rattle.verdicts.specs.declared.Comparing.TheVariants.{Refused, Same, Different, Undecided}
+use Rattle.verdicts.specs.declared.Verdict.{Verdict}
+use Rattle.verdicts.specs.declared.Verdict.TheVariants.{Same, Different, Undecided}
 
-abbrev pub answer_of : Comparing → Reply Compared
-answer_of (Refused admission) = passed_on (reply_of admission)
-answer_of Same = Reply.answered Compared.same-results
-answer_of Different = Reply.answered Compared.different-results
-answer_of Undecided = Reply.answered Compared.undecided
+abbrev pub compared_of : Verdict → Compared
+compared_of Same = Compared.same-results
+compared_of Different = Compared.different-results
+compared_of Undecided = Compared.undecided
+
+abbrev pub answer_of : Result Verdict Refused → Reply Compared
+answer_of (Ok verdict) = Reply.answered (compared_of verdict)
+answer_of (Err refused) = passed_on (refusal_of refused)

@@ -22,9 +22,9 @@ module _ (at : ℕ) (s : List ℕ) where
 
   -- byte by byte
   pub word_bytes :
-      at + 4 ≤ length s → (a b c d : ℕ) → a ≡ get_or s at 0 → b ≡ get_or s (at + 1) 0 → c ≡ get_or s (at + 2) 0 → d ≡ get_or s (at + 3) 0 →
-      a + b * 256 + c * 65536 + d * 16777216 ≡ word_at at s
-  word_bytes h a b c d ea eb ec ed =
+      at + 4 ≤ length s →
+      get_or s at 0 + get_or s (at + 1) 0 * 256 + get_or s (at + 2) 0 * 65536 + get_or s (at + 3) 0 * 16777216 ≡ word_at at s
+  word_bytes h =
       let e₀ : get_or (drop at s) 0 0 ≡ get_or s at 0 = get_or-drop at s 0 0 ∙ ap (λ (n : ℕ). get_or s n 0) (add-zero at) in
       let e₁ : get_or (drop at s) 1 0 ≡ get_or s (at + 1) 0 = get_or-drop at s 1 0 in
       let e₂ : get_or (drop at s) 2 0 ≡ get_or s (at + 2) 0 = get_or-drop at s 2 0 in
@@ -70,4 +70,4 @@ word-known at s h ha hb hc hd =
     ∙ ap (λ (l : List ℕ). get_or s (at + 3) 0 ∷ l) (part-empty (at + 4) (at + 4) s (omega arith))))) in
     four
     ∙ sym (bytes_word (get_or s at 0) (get_or s (at + 1) 0) (get_or s (at + 2) 0) (get_or s (at + 3) 0) ha hb hc hd)
-    ∙ ap word_of (word_bytes at s h (get_or s at 0) (get_or s (at + 1) 0) (get_or s (at + 2) 0) (get_or s (at + 3) 0) refl refl refl refl)
+    ∙ ap word_of (word_bytes at s h)

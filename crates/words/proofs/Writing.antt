@@ -7,15 +7,11 @@ use lib.ListN.{length, take, get_or}
 use lib.Seq.{take_all, length-take-le}
 use Rattle.slices.specs.Wrote.{Wrote}
 use Rattle.slices.proofs.Wrote.{wrote_none, wrote_then}
-use Rattle.slices.proofs.Appending.{Appends, appended, wrote, appends-none}
+use Rattle.slices.proofs.Appending.{Appends, appended, wrote}
 use Rattle.words.specs.Word.{word_of, words_of}
 use Rattle.words.proofs.Words.{words_length, words_more}
 
 module _ (numbers : List ℕ) (dst : List ℕ) (at : ℕ) where
-  -- no room for all of them
-  pub words-none : length dst < at + 4 * length numbers → Appends at (words_of numbers) dst at dst
-  words-none short = appends-none at (words_of numbers) dst (omega (arith, words_length numbers))
-
   -- the first i numbers written, and room for all
   pub record So (i end : ℕ) (dst' : List ℕ) : Type 0 where
     pub within : i ≤ length numbers

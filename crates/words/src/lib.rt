@@ -1,16 +1,9 @@
 // Numbers as four bytes each, low byte first, read from a slice and written into one. Total: the definition says what happens where they do not fit.
 #![tactic(auto)]
 
-ghost use Rattle.std.specs.Prelude.{◌≡◌, ◌≤◌};
+ghost use Rattle.std.specs.Prelude.{◌≡◌};
 ghost use Rattle.slices.specs.Put.{put, behind};
 ghost use Rattle.words.specs.Word.{word_of, words_of, word_at};
-
-// A byte as a number of 32 bits.
-fn wide(b: u8) -> u32
-    ensures { (result ≡ b) × (result ≤ 255) }
-{
-    b as u32
-}
 
 // The number whose four bytes stand from index `at` on; 0 where they are not all there.
 pub fn word_at(s: &[u8], at: usize) -> u32
@@ -22,23 +15,18 @@ pub fn word_at(s: &[u8], at: usize) -> u32
     if s.len() - 4 < at {
         return 0;
     }
-    wide(s[at]) + wide(s[at + 1]) * 256 + wide(s[at + 2]) * 65536 + wide(s[at + 3]) * 16777216
+    u32::from_le_bytes([s[at], s[at + 1], s[at + 2], s[at + 3]])
 }
 
 // Writes a number to index `at` of `dst` and answers the index behind it; changes nothing where it does not fit.
 pub fn append_word(n: u32, dst: &mut [u8], at: usize) -> usize
     ensures { (dst.new ≡ put at (word_of n) dst.old) × (result ≡ behind at (word_of n) dst.old) }
 {
-    let bytes = [
-        (n % 256) as u8,
-        (n / 256 % 256) as u8,
-        (n / 65536 % 256) as u8,
-        (n / 16777216 % 256) as u8,
-    ];
-    filling::append(&bytes, 0, 4, dst, at)
+    filling::append(&n.to_le_bytes(), 0, 4, dst, at)
 }
 
 // Writes numbers one behind the other, as `append_word` does; all of them or none.
+#[tactic(auto, using(crate::proofs::Words::words_length), unfolding(slices::specs::Put::put, slices::specs::Put::behind))]
 pub fn append_words(numbers: &[u32], dst: &mut [u8], at: usize) -> usize
     ensures { (dst.new ≡ put at (words_of numbers.now) dst.old)
         × (result ≡ behind at (words_of numbers.now) dst.old) }
@@ -50,10 +38,8 @@ pub fn append_words(numbers: &[u32], dst: &mut [u8], at: usize) -> usize
         return at;
     }
     let mut end = at;
-    let mut i = 0;
-    while i < numbers.len() {
-        end = append_word(numbers[i], dst, end);
-        i += 1;
+    for n in numbers {
+        end = append_word(*n, dst, end);
     }
     end
 }

@@ -1,5 +1,5 @@
 -- What the writer leaves: pieces appended one behind the other, wherever all of them fit. Assumes nothing.
-use Prim.Native.Nat.{ℕ, zero, suc, ◌+◌, ◌≤◌}
+use Prim.Native.Nat.{ℕ, ◌+◌, ◌≤◌}
 use native.Mathlib.Nat.{add-zero}
 use native.Mathlib.Omega.{arith}
 use native.Mathlib.Decide.{dec_le}
@@ -11,7 +11,6 @@ use Rattle.slices.specs.Wrote.{Wrote}
 use Rattle.slices.proofs.Put.{put-fits, put-short, behind-fits, behind-short}
 use Rattle.slices.proofs.Wrote.{wrote_none, wrote_put, wrote_then}
 use Rattle.parts.proofs.Pieces.{flat, sizes, length-flat}
-use Rattle.rewriting.specs.Text.{letter_text}
 use Rattle.writing.specs.PutAll.{put_all, behind_all}
 
 -- nothing appended changes nothing
@@ -28,11 +27,6 @@ put-nothing at d = go (dec_le (at + 0) (length d))
       sym (behind-fits at [] d h ∙ add-zero at),
     )
     go (no h) = (sym (put-short at [] d (omega arith)), sym (behind-short at [] d (omega arith)))
-
--- a letter that is not 0 is one byte
-pub letter-text : (b : ℕ) → (b ≡ 0 → ⊥) → b ∷ [] ≡ letter_text b
-letter-text zero n = absurd (n refl)
-letter-text (suc b) n = refl
 
 -- the pieces behind one that is written
 module _

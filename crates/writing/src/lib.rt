@@ -8,17 +8,17 @@ ghost use Rattle.writing.specs.PutAll.{put_all, behind_all};
 ghost use Rattle.writing.specs.Back.{Back};
 
 use filling::{append, append_byte, clear};
-use rewriting::{NO_LETTER, Rewrite};
+use rewriting::Rewrite;
 use slices::cut;
 
-// Writes a letter, or nothing for `NO_LETTER`.
-fn append_letter(b: u8, dst: &mut [u8], at: usize) -> usize
-    ensures { (dst.new ≡ put at (letter_text b) dst.old) × (result ≡ behind at (letter_text b) dst.old) }
+// Writes a letter, or nothing.
+fn append_letter(letter: Option<u8>, dst: &mut [u8], at: usize) -> usize
+    ensures { (dst.new ≡ put at (letter_text letter) dst.old) × (result ≡ behind at (letter_text letter) dst.old) }
 {
-    if b == NO_LETTER {
-        return at;
+    match letter {
+        Some(b) => append_byte(b, dst, at),
+        None => at,
     }
-    append_byte(b, dst, at)
 }
 
 // Writes what comes of the text `s` to the front of `dst`, piece by piece, and answers the index behind it; a piece that does not fit is left out.

@@ -1,13 +1,12 @@
--- `bell_rows::is_chain` meets its contract. The loop's invariant: what is left from `at` on is a chain's text exactly where the whole is.
--- The measure is what is left.
-use Prim.Native.Nat.{◌≤◌, ◌-◌}
+-- `bell_rows::is_chain` meets its contract. The loop's invariant: the bytes that are left are a chain's text exactly where the whole is. The
+-- measure is their number.
 use mathlib.Core.Path.{◌≡◌}
-use lib.ListN.{length, drop}
+use lib.ListN.{length}
 use Rattle.bell_rows.specs.Bytes.{is_chain_text}
 use Rattle.bell_rows.proofs.is_chain.Given as goal
 
-abbrev pub invariant-loop-at : goal.invariant-loop-at
-invariant-loop-at l = (l.at ≤ length l.term) × (is_chain_text (drop l.at l.term) ≡ is_chain_text l.term)
+abbrev pub invariant-loop-rest : goal.invariant-loop-rest
+invariant-loop-rest l = is_chain_text l.rest ≡ is_chain_text l.term
 
-abbrev pub decreases-loop-at : goal.decreases-loop-at
-decreases-loop-at l = length l.term - l.at
+abbrev pub decreases-loop-rest : goal.decreases-loop-rest
+decreases-loop-rest l = length l.rest

@@ -1,7 +1,8 @@
 use native.Mathlib.Omega.{arith}
 use mathlib.Core.Path.{◌≡◌}
 use borrow.Author.Rules.{rules}
-use lib.ListN.{length}
+use lib.ListN.{length, take, length-take}
+use lib.Seq.{length-take-le}
 use Rattle.bell_rows.specs.Row.{most}
 use Rattle.bell_rows.proofs.Each.{none_seen}
 use Rattle.bell_rows.proofs.Places.{many-bad, zero-bad, above-bad, twice-bad, one_more, row-good}
@@ -10,38 +11,32 @@ use Rattle.bell_rows.proofs.is_row.Goals as goal
 pub returns-then-bells-gt-MOST : goal.returns-then-bells-gt-MOST
 returns-then-bells-gt-MOST c =
     let sized : length c.args.row ≡ most = search rules in
-    many-bad c.args.bells c.args.row sized (omega (arith, c.if-bells-gt-MOST.true))
+    many-bad c.args.bells (take c.args.bells c.args.row) (omega (arith, length-take c.args.bells c.args.row)) c.if-bells-gt-MOST.true
 
-pub loop-i-init : goal.loop-i-init
-loop-i-init c = (omega arith, none_seen c.args.bells)
+pub loop-place-init : goal.loop-place-init
+loop-place-init c = none_seen c.args.bells
 
 pub returns-then-bell-eq0 : goal.returns-then-bell-eq0
 returns-then-bell-eq0 c =
-    let sized : length c.args.row ≡ most = search rules in
-    zero-bad c.args.bells c.args.row (omega (arith, c.if-bells-gt-MOST.false)) sized c.loop-i.i
-    c.loop-i-test.true (omega (arith, c.if-bell-eq0.true))
+    zero-bad c.args.bells _ c.loop-place.place-index c.from-bell.result c.loop-place-test.true c.from-bell.ensures c.if-bell-eq0.true
 
 pub returns-then-bells-bell : goal.returns-then-bells-bell
 returns-then-bells-bell c =
-    let sized : length c.args.row ≡ most = search rules in
-    above-bad c.args.bells c.args.row (omega (arith, c.if-bells-gt-MOST.false)) sized c.loop-i.i
-    c.loop-i-test.true (omega (arith, c.if-bells-bell.true))
+    above-bad c.args.bells _ c.loop-place.place-index c.from-bell.result c.loop-place-test.true c.from-bell.ensures
+    c.if-bells-bell.true
 
 pub returns-then-seen-bell : goal.returns-then-seen-bell
 returns-then-seen-bell c =
-    let sized : length c.args.row ≡ most = search rules in
-    twice-bad c.args.bells c.args.row (omega (arith, c.if-bells-gt-MOST.false)) sized c.loop-i.i
-    c.loop-i-test.true c.loop-i.invariant.1 (omega arith) c.if-seen-bell.true
+    twice-bad c.args.bells _ c.loop-place.place-index c.from-bell.result c.loop-place-test.true c.from-bell.ensures
+    c.if-bells-gt-MOST.false c.loop-place.invariant (omega arith) c.if-seen-bell.true
 
-pub loop-i-preserved : goal.loop-i-preserved
-loop-i-preserved c =
-    let sized : length c.args.row ≡ most = search rules in
-    let next = one_more c.args.bells c.args.row (omega (arith, c.if-bells-gt-MOST.false)) sized c.loop-i.i
-    c.loop-i-test.true c.loop-i.invariant.1 (omega arith) (omega arith) c.if-seen-bell.false in
-    (omega arith, next)
+pub loop-place-preserved : goal.loop-place-preserved
+loop-place-preserved c =
+    one_more c.args.bells _ c.loop-place.place-index c.from-bell.result c.loop-place-test.true c.from-bell.ensures
+    c.if-bells-gt-MOST.false c.loop-place.invariant (omega arith) (omega arith) c.if-seen-bell.false
 
 pub returns : goal.returns
 returns c =
     let sized : length c.args.row ≡ most = search rules in
-    row-good c.args.bells c.args.row (omega (arith, c.if-bells-gt-MOST.false)) sized c.loop-i.i c.loop-i.invariant.0
-    (omega arith) c.loop-i.invariant.1
+    row-good c.args.bells _ c.loop-place.place-index (length-take-le c.args.bells c.args.row (omega arith)) c.loop-place-test.false
+    c.loop-place.invariant

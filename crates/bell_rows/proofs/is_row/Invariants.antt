@@ -1,12 +1,8 @@
--- `bell_rows::is_row` meets its contract. The loop's invariant: the first i places hold different bells from one to so many, and `seen`
--- marks them. The measure is what is left of the places.
-use Prim.Native.Nat.{◌≤◌, ◌-◌}
+-- `bell_rows::is_row` meets its contract. The loop's invariant: the places that it has passed hold different bells from one to so many, and
+-- `seen` marks them.
 use lib.ListN.{take}
 use Rattle.bell_rows.proofs.Each.{Seen}
 use Rattle.bell_rows.proofs.is_row.Given as goal
 
-abbrev pub invariant-loop-i : goal.invariant-loop-i
-invariant-loop-i l = (l.i ≤ l.bells) × Seen l.bells (take l.i l.row) l.seen
-
-abbrev pub decreases-loop-i : goal.decreases-loop-i
-decreases-loop-i l = l.bells - l.i
+abbrev pub invariant-loop-place : goal.invariant-loop-place
+invariant-loop-place l = Seen l.bells (take l.place-index l.place-items) l.seen

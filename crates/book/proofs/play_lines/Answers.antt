@@ -1,23 +1,10 @@
 use Prim.Native.Nat.{◌+◌}
-use mathlib.Core.Path.{◌≡◌, refl, sym, ◌∙◌, ap}
-use mathlib.Core.Logic.{inl, inr}
-use mathlib.Core.List.{[], ◌∷◌}
+use mathlib.Core.Path.{refl, sym, ◌∙◌, ap}
 use native.Mathlib.Omega.{arith}
-use types.Run.{OneOf}
-use denote.Enum.Declared.{tag_of}
 use lib.Seq.{length-take-le}
-use Rattle.finishing.specs.declared.Outcome.{Outcome}
-use Rattle.finishing.specs.declared.Outcome.TheVariants.{Finished, Spent, NoRoom}
-use Rattle.finishing.specs.contracts.Outcome.{the_type}
 use Rattle.book_lines.specs.Fault.{piece_field}
-use Rattle.book.proofs.Walking.{next, walk_start, walk-few, walk-table, walk-line-ends, walk-room, walk-playable, walk-left, walk-gave, walk-on, walk_end}
+use Rattle.book.proofs.Walking.{next, walk_start, walk-few, walk-table, walk-line-ends, walk-room, walk-playable, walk-spent, walk-no_room, walk-gave, walk-on, walk_end}
 use Rattle.book.proofs.play_lines.Goals as goal
-
--- a line that did not finish ended in one of the two other ways
-others : (o : Outcome) → (o ≡ Finished → ⊥) → OneOf (1 ∷ 2 ∷ []) (tag_of the_type o)
-others Finished h = absurd (h refl)
-others Spent h = inl refl
-others NoRoom h = inr refl
 
 pub loop-at-init : goal.loop-at-init
 loop-at-init c =
@@ -45,18 +32,31 @@ slice_bounds-play_line-end-in-loop-at c =
 pub overflow_add-count : goal.overflow_add-count
 overflow_add-count c = omega (arith, walk-few c.loop-at.invariant)
 
-pub returns-in_default : goal.returns-in_default
-returns-in_default c =
+pub returns-in-Spent : goal.returns-in-Spent
+returns-in-Spent c =
     let walked = c.loop-at.invariant in
     let more = c.loop-at-test.true in
     let feed = c.find_from-feed.result in
     let found = c.find_from-feed.ensures in
     let piece = c.piece_of.ensures ∙ ap piece_field c.cut.ensures in
-    let line = c.play_line-line.result in
+    let line = c.play_line-end.result in
     let left =
-    c.play_line-line.ensures walked.earlier walked.results (next walked more feed found).l walked.lent walked.shelved
+    c.play_line-end.ensures walked.earlier walked.results (next walked more feed found).l walked.lent walked.shelved
     (walk-playable walked more feed found c.piece_of.result.now piece) in
-    walk-left walked more feed found line.outcome (c.loop-at.count + 1) line.size _ _ (others line.outcome c.in_default.not-Finished) left refl
+    walk-spent walked more feed found line c.stopped.result _ _ c.in-Spent.is left c.stopped.ensures
+
+pub returns-in-NoRoom : goal.returns-in-NoRoom
+returns-in-NoRoom c =
+    let walked = c.loop-at.invariant in
+    let more = c.loop-at-test.true in
+    let feed = c.find_from-feed.result in
+    let found = c.find_from-feed.ensures in
+    let piece = c.piece_of.ensures ∙ ap piece_field c.cut.ensures in
+    let line = c.play_line-end.result in
+    let left =
+    c.play_line-end.ensures walked.earlier walked.results (next walked more feed found).l walked.lent walked.shelved
+    (walk-playable walked more feed found c.piece_of.result.now piece) in
+    walk-no_room walked more feed found line c.stopped-in-NoRoom.result _ _ c.in-NoRoom.is left c.stopped-in-NoRoom.ensures
 
 pub overflow_add-used : goal.overflow_add-used
 overflow_add-used c =
@@ -65,11 +65,11 @@ overflow_add-used c =
     let feed = c.find_from-feed.result in
     let found = c.find_from-feed.ensures in
     let piece = c.piece_of.ensures ∙ ap piece_field c.cut.ensures in
-    let line = c.play_line-line.result in
+    let line = c.play_line-end.result in
     let left =
-    c.play_line-line.ensures walked.earlier walked.results (next walked more feed found).l walked.lent walked.shelved
+    c.play_line-end.ensures walked.earlier walked.results (next walked more feed found).l walked.lent walked.shelved
     (walk-playable walked more feed found c.piece_of.result.now piece) in
-    let gave = walk-gave walked more feed found line.outcome line.size _ _ c.in-Finished.is left in
+    let gave = walk-gave walked more feed found line c.in-Finished.size _ _ c.in-Finished.is left in
     omega (arith, gave.fits)
 
 pub offset_bounds-ends-count : goal.offset_bounds-ends-count
@@ -99,13 +99,13 @@ loop-at-preserved c =
     let feed = c.find_from-feed.result in
     let found = c.find_from-feed.ensures in
     let piece = c.piece_of.ensures ∙ ap piece_field c.cut.ensures in
-    let line = c.play_line-line.result in
+    let line = c.play_line-end.result in
     let left =
-    c.play_line-line.ensures walked.earlier walked.results (next walked more feed found).l walked.lent walked.shelved
+    c.play_line-end.ensures walked.earlier walked.results (next walked more feed found).l walked.lent walked.shelved
     (walk-playable walked more feed found c.piece_of.result.now piece) in
-    let gave = walk-gave walked more feed found line.outcome line.size _ _ c.in-Finished.is left in
-    walk-on walked more feed found line.size _ _ _ _ gave refl c.play_line-line.auto.area c.play_line-line.auto.work
-    c.play_line-line.auto.store
+    let gave = walk-gave walked more feed found line c.in-Finished.size _ _ c.in-Finished.is left in
+    walk-on walked more feed found c.in-Finished.size _ _ _ _ gave refl c.play_line-end.auto.area c.play_line-end.auto.work
+    c.play_line-end.auto.store
 
 pub returns : goal.returns
 returns c = walk_end c.loop-at.invariant (omega (arith, c.loop-at-test.false))

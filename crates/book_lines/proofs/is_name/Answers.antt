@@ -1,23 +1,18 @@
-use mathlib.Core.Path.{sym, ◌∙◌}
+-- `book_lines::is_name` meets its contract: its lengths, and whether the library finds every letter small.
+use Rattle.std.proofs.Common.{rules}
+use Rattle.std.proofs.lemmas.Iterator.{YieldsList-from_slice}
+use Rattle.std.proofs.lemmas.Iterator.Search.{all_from_yields_List}
+use borrow.Author.Tests.{tests}
+use mathlib.Core.Path.{◌∙◌}
 use native.Mathlib.Omega.{arith}
-use Rattle.book_lines.proofs.Naming.{long-name, name-start, not-small, one-small, small-end}
+use Rattle.books.specs.Name.{is_small}
+use Rattle.book_lines.proofs.Naming.{long-name, name-all}
 use Rattle.book_lines.proofs.is_name.Goals as goal
 
 pub returns-then-s-gt-NAME_LIMIT : goal.returns-then-s-gt-NAME_LIMIT
 returns-then-s-gt-NAME_LIMIT c = long-name c.args.s.now (omega arith)
 
-pub loop-at-init : goal.loop-at-init
-loop-at-init c = (omega arith, name-start c.args.s.now (omega arith) (omega arith))
-
-pub returns-then-not-is_small : goal.returns-then-not-is_small
-returns-then-not-is_small c =
-    not-small c.args.s.now c.loop-at.at c.loop-at-test.true
-    (sym c.is_small.ensures ∙ c.if-not-is_small.true) ∙ c.loop-at.invariant.1
-
-pub loop-at-preserved : goal.loop-at-preserved
-loop-at-preserved c =
-    let small = sym c.is_small.ensures ∙ c.if-not-is_small.false in
-    (omega arith, one-small c.args.s.now c.loop-at.at c.loop-at-test.true small ∙ c.loop-at.invariant.1)
-
 pub returns : goal.returns
-returns c = small-end c.args.s.now c.loop-at.at c.loop-at-test.false ∙ c.loop-at.invariant.1
+returns c =
+    let all = all_from_yields_List is_small _ _ c.all.result c.all.ensures.ran (YieldsList-from_slice c.args.s.now cc) (λ x b q k. search (rules, tests)) in
+    all ∙ name-all c.args.s.now (omega arith) (omega arith)

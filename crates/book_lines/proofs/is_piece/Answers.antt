@@ -2,7 +2,7 @@ use mathlib.Core.Path.{sym, ◌∙◌}
 use native.Mathlib.Omega.{arith}
 use lib.ListN.{get_or}
 use Rattle.reading.proofs.Scan.{arity-few}
-use Rattle.book_lines.proofs.Scanning.{piece-start, nothing-owed, piece-end, no_letter, one-letter}
+use Rattle.book_lines.proofs.Scanning.{piece-start, nothing-owed, no_letter, one-letter}
 use Rattle.book_lines.proofs.Scanning.{left_open, not-name, one-use}
 use Rattle.book_lines.proofs.is_piece.Goals as goal
 
@@ -19,20 +19,11 @@ returns-then-s-end c =
     left_open c.loop-at.owed c.loop-at.at c.args.s.now c.loop-at-test.true c.if-owed-eq0.false
     c.find_from-end.result c.if-s-at-eq-OPEN.true c.find_from-end.ensures (omega arith) ∙ c.loop-at.invariant.2
 
-pub slice_bounds-is_name-count : goal.slice_bounds-is_name-count
-slice_bounds-is_name-count c = omega (arith, c.find_from-end.ensures)
-
-pub slice_bounds-is_name-start : goal.slice_bounds-is_name-start
-slice_bounds-is_name-start c = omega (arith, c.find_from-end.ensures)
-
 pub returns-then-not-is_name : goal.returns-then-not-is_name
 returns-then-not-is_name c =
     not-name c.loop-at.owed c.loop-at.at c.args.s.now c.loop-at-test.true c.if-owed-eq0.false
     c.find_from-end.result c.if-s-at-eq-OPEN.true c.find_from-end.ensures c.if-s-end.false
     (sym c.is_name.ensures ∙ c.if-not-is_name.true) ∙ c.loop-at.invariant.2
-
-pub loop-at-smaller-then-s-at-eq-OPEN : goal.loop-at-smaller-then-s-at-eq-OPEN
-loop-at-smaller-then-s-at-eq-OPEN c = omega (arith, c.find_from-end.ensures)
 
 pub loop-at-preserved-then-s-at-eq-OPEN : goal.loop-at-preserved-then-s-at-eq-OPEN
 loop-at-preserved-then-s-at-eq-OPEN c =
@@ -45,27 +36,22 @@ loop-at-preserved-then-s-at-eq-OPEN c =
           ∙ c.loop-at.invariant.2,
     )
 
-pub returns-then-parts-eq-NO_LETTER : goal.returns-then-parts-eq-NO_LETTER
-returns-then-parts-eq-NO_LETTER c =
-    no_letter c.loop-at.owed c.loop-at.at c.args.s.now c.loop-at-test.true c.if-owed-eq0.false
-    c.arity-parts.result c.if-s-at-eq-OPEN.false c.arity-parts.ensures c.if-parts-eq-NO_LETTER.true ∙ c.loop-at.invariant.2
+pub returns-in_default : goal.returns-in_default
+returns-in_default c =
+    no_letter c.loop-at.owed c.loop-at.at c.args.s.now c.loop-at-test.true c.if-owed-eq0.false c.if-s-at-eq-OPEN.false
+    (sym c.in_default.is ∙ c.arity.ensures) ∙ c.loop-at.invariant.2
 
 pub overflow_add-owed : goal.overflow_add-owed
 overflow_add-owed c =
-    let few =
-    arity-few (get_or c.args.s.now c.loop-at.at 0) c.arity-parts.result c.arity-parts.ensures c.if-parts-eq-NO_LETTER.false in
+    let few = arity-few (get_or c.args.s.now c.loop-at.at 0) c.in-Some.parts (sym c.in-Some.is ∙ c.arity.ensures) in
     omega arith
 
 pub loop-at-preserved : goal.loop-at-preserved
 loop-at-preserved c =
-    let counts = c.arity-parts.ensures in
-    let few = arity-few (get_or c.args.s.now c.loop-at.at 0) c.arity-parts.result counts c.if-parts-eq-NO_LETTER.false in (
+    let counts = sym c.in-Some.is ∙ c.arity.ensures in
+    let few = arity-few (get_or c.args.s.now c.loop-at.at 0) c.in-Some.parts counts in (
       omega arith,
       omega arith,
-      one-letter c.loop-at.owed c.loop-at.at c.args.s.now c.loop-at-test.true c.if-owed-eq0.false
-          c.arity-parts.result c.if-s-at-eq-OPEN.false counts c.if-parts-eq-NO_LETTER.false
+      one-letter c.loop-at.owed c.loop-at.at c.args.s.now c.loop-at-test.true c.if-owed-eq0.false c.if-s-at-eq-OPEN.false c.in-Some.parts counts
           ∙ c.loop-at.invariant.2,
     )
-
-pub returns : goal.returns
-returns c = piece-end c.loop-at.owed c.loop-at.at c.args.s.now c.loop-at-test.false ∙ c.loop-at.invariant.2

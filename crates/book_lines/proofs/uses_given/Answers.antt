@@ -1,9 +1,8 @@
 use Prim.Native.Nat.{◌+◌}
 use mathlib.Core.Path.{◌∙◌}
-use native.Mathlib.Omega.{arith}
 use Rattle.slices.specs.Part.{part}
 use Rattle.books.specs.Piece.{open_mark}
-use Rattle.book_lines.proofs.Using.{found_at, uses-start, uses-end, not-given, one-given, known}
+use Rattle.book_lines.proofs.Using.{found_at, uses-start, not-given, one-given, known}
 use Rattle.book_lines.proofs.uses_given.Goals as goal
 
 pub loop-at-init : goal.loop-at-init
@@ -24,9 +23,6 @@ returns-then-not-is_in c =
     not-given at end piece keys within (c.loop-at.invariant.0 within) c.find_from-end.ensures
     (told ∙ c.if-not-is_in.true) ∙ c.loop-at.invariant.1
 
-pub loop-at-smaller : goal.loop-at-smaller
-loop-at-smaller c = omega (arith, c.find_from-end.ensures, c.find_from-at-in-loop-at.ensures)
-
 pub loop-at-preserved : goal.loop-at-preserved
 loop-at-preserved c =
     let at = c.loop-at.at in
@@ -42,6 +38,3 @@ loop-at-preserved c =
           (told ∙ c.if-not-is_in.false)
           ∙ c.loop-at.invariant.1,
     )
-
-pub returns : goal.returns
-returns c = uses-end c.loop-at.at c.args.piece.now c.args.keys.now c.loop-at-test.false ∙ c.loop-at.invariant.1

@@ -1,12 +1,19 @@
+-- `book_names::find_from` meets its contract: the rest of the slice is what stands behind `at`.
+use mathlib.Core.Path.{◌∙◌, ap}
 use native.Mathlib.Omega.{arith}
-use Rattle.slices.proofs.Finding.{index-here, index-later, index_end}
+use lib.ListN.{length}
+use Rattle.slices.specs.Find.{index_of}
+use Rattle.slices.proofs.Finding.{index_within}
+use Rattle.slices.proofs.Part.{length_part, part-back}
 use Rattle.book_names.proofs.find_from.Goals as goal
 
-pub returns-then-s-i : goal.returns-then-s-i
-returns-then-s-i c = omega (arith, index-here c.args.b c.args.s.now c.loop-i.i c.loop-i-test.true c.if-s-i.true)
-
-pub loop-i-preserved : goal.loop-i-preserved
-loop-i-preserved c = omega (arith, index-later c.args.b c.args.s.now c.loop-i.i c.loop-i-test.true c.if-s-i.false)
+pub overflow_add-result : goal.overflow_add-result
+overflow_add-result c =
+    let s = c.args.s.now in
+    omega (arith, c.find.ensures, index_within c.args.b c.cut-rest.result.now, ap length c.cut-rest.ensures, length_part c.args.at (length s) s)
 
 pub returns : goal.returns
-returns c = omega (arith, index_end c.args.b c.args.s.now c.loop-i.i c.loop-i-test.false)
+returns c =
+    let s = c.args.s.now in
+    let rest = c.cut-rest.ensures ∙ part-back c.args.at (length s) s (omega arith) in
+    omega (arith, c.find.ensures, ap (index_of c.args.b) rest)

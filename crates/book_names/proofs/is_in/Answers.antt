@@ -1,9 +1,7 @@
--- `book_names::is_in` meets its contract: what is found before the end is among them.
-use Prim.Native.Nat.{ℕ}
-use mathlib.Core.Path.{ap}
-use lib.Dec.{ltb}
-use lib.ListN.{length}
+-- `book_names::is_in` meets its contract: what the library finds is among them.
+use mathlib.Core.Path.{◌∙◌}
+use Rattle.book_names.proofs.Chains.{any-is_in}
 use Rattle.book_names.proofs.is_in.Goals as goal
 
 pub returns : goal.returns
-returns c = ap (λ (n : ℕ). ltb n (length c.args.keys.now)) c.index_of.ensures
+returns c = c.contains.ensures.value ∙ any-is_in c.args.key c.args.keys.now

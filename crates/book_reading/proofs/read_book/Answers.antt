@@ -1,22 +1,23 @@
 -- `book_reading::read_book` meets its contract: the refusals of the whole in their order, then line by line.
 use mathlib.Core.Path.{refl, sym, ◌∙◌, ap}
 use native.Mathlib.Omega.{arith}
+use Rattle.book_reading.specs.declared.Refused.TheVariants.{TooLong, Empty, NoLineEnd}
 use Rattle.book_reading.specs.Table.{count_of, table_of}
 use Rattle.book_reading.proofs.Lines.{last_byte_lem}
 use Rattle.book_reading.proofs.Whole.{refuses, too_long, is-empty, no_line-end, line-by-line}
 use Rattle.book_reading.proofs.read_book.Goals as goal
 
 pub returns-then-book-gt-BOOK_LIMIT : goal.returns-then-book-gt-BOOK_LIMIT
-returns-then-book-gt-BOOK_LIMIT c = refuses 10 0 c.refusal.ensures refl (too_long c.args.book.now (omega arith))
+returns-then-book-gt-BOOK_LIMIT c = refuses TooLong 10 0 refl (too_long c.args.book.now (omega arith))
 
 pub returns-then-book-eq0 : goal.returns-then-book-eq0
-returns-then-book-eq0 c = refuses 11 0 c.refusal-then-book-eq0.ensures refl (is-empty c.args.book.now (omega arith) c.if-book-eq0.true)
+returns-then-book-eq0 c = refuses Empty 11 0 refl (is-empty c.args.book.now (omega arith) c.if-book-eq0.true)
 
 pub returns-then-byte_at-ne-LINE_FEED : goal.returns-then-byte_at-ne-LINE_FEED
 returns-then-byte_at-ne-LINE_FEED c =
     let book = c.args.book.now in
     let some_byte = c.if-book-eq0.false in
-    refuses 12 0 c.refusal-then-byte_at-ne-LINE_FEED.ensures refl
+    refuses NoLineEnd 12 0 refl
     (no_line-end book (omega arith) some_byte
     (λ e. c.if-byte_at-ne-LINE_FEED.true (c.byte_at.ensures ∙ sym (last_byte_lem book some_byte) ∙ e)))
 

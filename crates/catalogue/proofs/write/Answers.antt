@@ -4,5 +4,5 @@ use Rattle.catalogue.proofs.write.Goals as goal
 
 pub returns : goal.returns
 returns c =
-    result-wrote c.args.term.now c.args.print c.args.count c.args.used c.requires
+    result-wrote c.args.term.now c.args.print c.args.kept.count c.args.kept.used c.requires
     c.append_word-end.ensures c.append_word.ensures c.append.ensures

@@ -1,16 +1,8 @@
 -- `contracting::contract` meets its contract: the function's letter says which rules it may be.
 use mathlib.Core.Path.{sym, ◌∙◌}
-use borrow.Author.Rules.{rules}
-use Rattle.contracting.proofs.Nodes.{function-inside}
 use Rattle.contracting.proofs.Standing.{rule-5-gives}
 use Rattle.contracting.proofs.Freezing.{freeze-first, freeze-gives}
 use Rattle.contracting.proofs.contract.Goals as goal
-
-pub offset_bounds-cells-function : goal.offset_bounds-cells-function
-offset_bounds-cells-function c = let h = function-inside c.requires in search rules
-
-pub bounds-cells-function : goal.bounds-cells-function
-bounds-cells-function c = function-inside c.requires
 
 pub returns-then-letter-eq-I : goal.returns-then-letter-eq-I
 returns-then-letter-eq-I c = rule-5-gives (sym c.letter_in-letter.ensures ∙ c.if-letter-eq-I.true)

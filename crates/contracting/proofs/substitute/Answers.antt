@@ -1,33 +1,13 @@
 -- `contracting::substitute` meets its contract: the argument's letter says which rule it is.
 use mathlib.Core.Path.{sym, ◌∙◌}
-use borrow.Author.Rules.{rules}
 use native.Mathlib.Omega.{arith}
-use Rattle.contracting.proofs.Nodes.{function-inside, argument-inside}
 use Rattle.contracting.proofs.Spreading.{spreads_8, spreads_11}
 use Rattle.contracting.proofs.Standing.{rule-6-gives, rule-10-gives, rule-13-gives}
 use Rattle.contracting.proofs.Substituting.{rule-7-first, rule-7-gives, rule-9-first, rule-9-second, rule-9-gives}
 use Rattle.contracting.proofs.substitute.Goals as goal
 
-pub offset_bounds-cells-argument : goal.offset_bounds-cells-argument
-offset_bounds-cells-argument c = let h = argument-inside c.requires.contractible in search rules
-
-pub bounds-cells-argument : goal.bounds-cells-argument
-bounds-cells-argument c = argument-inside c.requires.contractible
-
-pub offset_bounds-cells-function : goal.offset_bounds-cells-function
-offset_bounds-cells-function c = let h = function-inside c.requires.contractible in search rules
-
-pub bounds-cells-function : goal.bounds-cells-function
-bounds-cells-function c = function-inside c.requires.contractible
-
 pub returns-then-letter-eq-J : goal.returns-then-letter-eq-J
 returns-then-letter-eq-J c = rule-6-gives c.requires.function_value c.first_in-result.ensures (sym c.letter_in-letter.ensures ∙ c.if-letter-eq-J.true)
-
-pub offset_bounds-cells-function-then-letter-eq-R : goal.offset_bounds-cells-function-then-letter-eq-R
-offset_bounds-cells-function-then-letter-eq-R c = let h = function-inside c.requires.contractible in search rules
-
-pub bounds-cells-function-then-letter-eq-R : goal.bounds-cells-function-then-letter-eq-R
-bounds-cells-function-then-letter-eq-R c = function-inside c.requires.contractible
 
 pub node-requires : goal.node-requires
 node-requires c =
@@ -41,21 +21,11 @@ returns-then-letter-eq-R c =
     rule-7-gives c.requires.contractible c.requires.function_value c.second_in-substitution.ensures c.first_in-index.ensures
     (sym c.letter_in-letter.ensures ∙ c.if-letter-eq-R.true) c.node.ensures
 
-pub spread-requires : goal.spread-requires
-spread-requires c =
-    record {
-      contractible = c.requires.contractible;
-      function_value = c.requires.function_value;
-      spreads = spreads_8 c.letter_in-letter.ensures c.if-letter-eq-H.true;
-    }
+pub spread-requires-clause-spreads : goal.spread-requires-clause-spreads
+spread-requires-clause-spreads c = spreads_8 c.letter_in-letter.ensures c.if-letter-eq-H.true
 
-pub spread-requires-then-letter-eq-B : goal.spread-requires-then-letter-eq-B
-spread-requires-then-letter-eq-B c =
-    record {
-      contractible = c.requires.contractible;
-      function_value = c.requires.function_value;
-      spreads = spreads_11 c.letter_in-letter.ensures c.if-letter-eq-B.true;
-    }
+pub spread-requires-then-letter-eq-B-clause-spreads : goal.spread-requires-then-letter-eq-B-clause-spreads
+spread-requires-then-letter-eq-B-clause-spreads c = spreads_11 c.letter_in-letter.ensures c.if-letter-eq-B.true
 
 pub node-requires-then-letter-eq-A : goal.node-requires-then-letter-eq-A
 node-requires-then-letter-eq-A c =

@@ -1,24 +1,22 @@
 -- `dearest_answers::print_dearest` meets its contract: a refusal's line, or the text of the term and the steps.
+use Prim.Native.Nat.{ℕ}
 use mathlib.Core.Path.{◌∙◌, ap}
 use mathlib.Core.List.{List}
-use Prim.Native.Nat.{ℕ}
+use Rattle.small_admission.specs.Answer.{refusal_of}
 use Rattle.printing.specs.Printed.{count_of}
 use Rattle.answer_lines.proofs.Printing.{prints}
-use Rattle.small_admission.proofs.Replies.{others-refused, last-tag}
 use Rattle.dearest_answers.proofs.Printing.{refusal-shown, found-shown}
 use Rattle.dearest_answers.proofs.print_dearest.Goals as goal
 
-pub returns-in_default : goal.returns-in_default
-returns-in_default c =
-    let a = c.args in
+pub returns-in-Ok : goal.returns-in-Ok
+returns-in-Ok c =
+    let r = c.args.request in
+    let finding = c.in-Ok.finding in
     prints _ _ _
-    (refusal-shown a.size a.fuel a.area c.dearest-finding.result.admission c.dearest-finding.result.text c.dearest-finding.result.steps c.dearest-finding.ensures
-    (others-refused c.dearest-finding.result.admission c.in_default.not-Admitted)) c.print_refusal.ensures
+    (ap (λ (word : List ℕ). count_of word finding.steps) c.cut-text.ensures
+    ∙ found-shown r.size r.fuel r.area finding.text finding.steps c.in-Ok.ensures) c.print_count.ensures
 
-pub returns : goal.returns
-returns c =
-    let a = c.args in
-    prints _ _ _
-    (ap (λ (word : List ℕ). count_of word c.dearest-finding.result.steps) c.cut.ensures
-    ∙ found-shown a.size a.fuel a.area c.dearest-finding.result.admission c.dearest-finding.result.text c.dearest-finding.result.steps c.dearest-finding.ensures
-    (last-tag c.dearest-finding.result.admission c.in-Admitted.is)) c.print_count.ensures
+pub returns-in-Err : goal.returns-in-Err
+returns-in-Err c =
+    let r = c.args.request in
+    prints _ _ _ (refusal-shown r.size r.fuel r.area (refusal_of c.in-Err.refused) c.in-Err.ensures) c.print_refusal.ensures

@@ -2,6 +2,7 @@
 use native.Mathlib.Omega.{arith}
 use mathlib.Core.Bool.{false≢true}
 use Rattle.emitting.proofs.Letter.{cur-inside, list_inside, emitted-R, emitted-two, emitted-last, emitted-next, bare-two, bare-next}
+use Rattle.emitting.proofs.Heads.{count-is, count-not}
 use Rattle.emitting.proofs.emit.Goals as goal
 
 pub offset_bounds-cells-cur : goal.offset_bounds-cells-cur
@@ -24,19 +25,19 @@ link-requires c =
       short = (omega arith, omega (arith, list_inside c.requires, c.requires.room.few));
     }
 
-pub returns-then-arity-eq2 : goal.returns-then-arity-eq2
-returns-then-arity-eq2 c =
+pub returns-then-eq : goal.returns-then-eq
+returns-then-eq c =
     record {
-      emitted = emitted-two c.requires c.letter_in-letter.result c.letter_in-letter.ensures c.arity.result c.arity.ensures _ _ c.link.new.cells c.if-arity-eq2.true
+      emitted = emitted-two c.requires c.letter_in-letter.result c.letter_in-letter.ensures c.arity.result c.arity.ensures _ _ c.link.new.cells (count-is c.eq.ensures c.if-eq.true)
           (assumption) (assumption) c.link.ensures;
-      bare = λ e. bare-two c.requires c.letter_in-letter.result c.letter_in-letter.ensures c.arity.result c.arity.ensures _ c.link.new.cells c.if-arity-eq2.true
+      bare = λ e. bare-two c.requires c.letter_in-letter.result c.letter_in-letter.ensures c.arity.result c.arity.ensures _ c.link.new.cells (count-is c.eq.ensures c.if-eq.true)
           (assumption) c.link.ensures;
     }
 
 pub returns-then-list-eq0 : goal.returns-then-list-eq0
 returns-then-list-eq0 c =
     record {
-      emitted = emitted-last c.requires c.letter_in-letter.result c.letter_in-letter.ensures c.arity.result c.arity.ensures c.if-letter-eq-R.false c.if-arity-eq2.false c.if-list-eq0.true;
+      emitted = emitted-last c.requires c.letter_in-letter.result c.letter_in-letter.ensures c.arity.result c.arity.ensures c.if-letter-eq-R.false (count-not c.eq.ensures c.if-eq.false) c.if-list-eq0.true;
       bare = λ e. absurd (false≢true e);
     }
 
@@ -49,7 +50,7 @@ bounds-cells-list c = list_inside c.requires
 pub returns : goal.returns
 returns c =
     record {
-      emitted = emitted-next c.requires c.letter_in-letter.result c.letter_in-letter.ensures c.arity.result c.arity.ensures c.if-letter-eq-R.false c.if-arity-eq2.false
+      emitted = emitted-next c.requires c.letter_in-letter.result c.letter_in-letter.ensures c.arity.result c.arity.ensures c.if-letter-eq-R.false (count-not c.eq.ensures c.if-eq.false)
           c.first_in-2.result c.second_in.result c.if-list-eq0.false c.first_in-2.ensures c.second_in.ensures;
       bare = λ e. bare-next c.requires c.second_in.result c.if-list-eq0.false c.second_in.ensures;
     }

@@ -1,18 +1,26 @@
--- No read yet, and one read more: `got` is a number that an isize holds, so it comes back as it was.
-use Rattle.std.proofs.Common.{pos, sym, subst}
-use Rattle.std.proofs.Math.Facts.{to_z-of_z}
+-- No read yet, one read more, and a read that failed.
+use Rattle.std.proofs.Common.{sym, subst}
+use Rattle.std.proofs.lemmas.Result.{err_from_is_err_and}
+use Rattle.std.specs.Prelude.{Ok, Err}
+use Rattle.std.specs.declared.io.Error.{Error}
 use Rattle.line_states.specs.Fed.{start_line}
 use Rattle.line_states.specs.State.{state}
 use Rattle.line_states.specs.declared.Line.{Line}
 use Rattle.feeding.specs.Fed.{ReadOn}
 use Rattle.feeding.proofs.feed_all.Goals as goal
 
-pub loop-turns-init : goal.loop-turns-init
-loop-turns-init g c =
+pub loop-init : goal.loop-init
+loop-init g c =
     let kept = c.args.kept.now in
-    subst (λ (l : Line). ReadOn (state start_line kept) (state l kept) (pos 1)) (sym c.start-line.ensures) ReadOn.unread
+    (1, subst (λ (l : Line). ReadOn {E = Error} (state start_line kept) (state l kept) (Ok 1)) (sym c.start-line.ensures) ReadOn.unread)
 
-pub loop-turns-preserved : goal.loop-turns-preserved
-loop-turns-preserved g c =
-    let fed = c.feed_some-line in
-    subst (ReadOn _ _) (sym (to_z-of_z fed.ensures.sfits)) (ReadOn.read fed.new.got c.loop-turns.invariant fed.ensures.fed_by)
+pub loop-preserved : goal.loop-preserved
+loop-preserved g c = (c.in_ok-got.got, ReadOn.read (Ok c.in_ok-got.got) c.loop.invariant.1 c.in_ok-got.ensures)
+
+pub returns-in_err-got : goal.returns-in_err-got
+returns-in_err-got g c =
+    let p = err_from_is_err_and c.from_residual.result c.from_residual.ensures.1 in
+    rw (p.1, p.2) (
+      c.feed_some.new.line,
+      ReadOn.read (Err c.in_err-got.field-0.0) c.loop.invariant.1 c.in_err-got.ensures,
+    )

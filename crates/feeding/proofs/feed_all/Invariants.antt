@@ -1,11 +1,10 @@
--- The reads so far led here; the measure is the number of turns that are left.
+-- `feeding::feed_all` meets its contract. The loop's invariant: the reads so far led here, and none of them failed.
+use Rattle.std.specs.Prelude.{ℕ, Ok}
+use Rattle.std.specs.declared.io.Error.{Error}
 use Rattle.line_states.specs.Fed.{start_line}
 use Rattle.line_states.specs.State.{state}
 use Rattle.feeding.specs.Fed.{ReadOn}
 use Rattle.feeding.proofs.feed_all.Given as goal
 
-abbrev pub invariant-loop-turns : goal.invariant-loop-turns
-invariant-loop-turns g l = ReadOn (state start_line l.fn.kept) (state l.line l.kept) l.got
-
-abbrev pub decreases-loop-turns : goal.decreases-loop-turns
-decreases-loop-turns g l = l.turns
+abbrev pub invariant-loop : goal.invariant-loop
+invariant-loop g l = (size : ℕ) × ReadOn {E = Error} (state start_line l.fn.kept) (state l.line l.kept) (Ok size)

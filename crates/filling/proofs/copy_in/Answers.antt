@@ -7,35 +7,18 @@ use Rattle.slices.proofs.Put.{paste-turn, paste-put}
 use Rattle.filling.proofs.copy_in.Goals as goal
 
 pub loop-i-init : goal.loop-i-init
-loop-i-init c = (omega arith, paste-zero c.args.dst.now c.args.at c.args.piece.now, refl)
+loop-i-init c = (paste-zero c.args.dst.now c.args.at c.args.piece.now, refl)
 
 pub loop-i-preserved : goal.loop-i-preserved
 loop-i-preserved c =
     let a = c.args in (
-      omega arith,
-      paste-turn
-          a.dst.now
-          a.at
-          a.piece.now
-          c.loop-i.i
-          (a.at + c.loop-i.i)
-          (get_or a.piece.now c.loop-i.i 0)
-          c.loop-i.dst
-          (omega arith)
-          (omega arith)
-          refl
-          refl
-          c.loop-i.invariant.1,
-      simp length-set c.loop-i.invariant.2,
+      paste-turn a.dst.now a.at a.piece.now c.loop-i.i (a.at + c.loop-i.i) (get_or a.piece.now c.loop-i.i 0) c.loop-i.dst (omega arith) (omega arith) refl refl
+          c.loop-i.invariant.0,
+      simp length-set c.loop-i.invariant.1,
     )
-
-pub shape_of-dst : goal.shape_of-dst
-shape_of-dst c = c.loop-i.invariant.2
 
 pub returns : goal.returns
 returns c =
     let a = c.args in
     let whole : c.loop-i.i ≡ length a.piece.now = omega arith in
-    c.loop-i.invariant.1
-    ∙ ap (paste a.dst.now a.at a.piece.now) whole
-    ∙ paste-put a.at a.piece.now a.dst.now c.requires
+    c.loop-i.invariant.0 ∙ ap (paste a.dst.now a.at a.piece.now) whole ∙ paste-put a.at a.piece.now a.dst.now c.requires

@@ -10,5 +10,5 @@ run_in-requires c =
     let (fits, many, few) = c.is_usable.ensures c.if-not-is_usable.false in
     record {
       runnable = c.requires;
-      usable = record { few = few; many = many; roomy = c.least-room.ensures; fits = fits };
+      usable = record { few = few; many = many; roomy = c.min-room.ensures; fits = fits };
     }

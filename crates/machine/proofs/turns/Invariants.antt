@@ -3,8 +3,8 @@ use Rattle.turning.specs.Turning.{to_go_in}
 use Rattle.machine.proofs.Looping.{Going}
 use Rattle.machine.proofs.turns.Given as goal
 
-abbrev pub invariant-loop-on : goal.invariant-loop-on
-invariant-loop-on l = Going l.room l.initial.cells l.initial.area l.initial.counts l.initial.st l.limit l.cells l.area l.counts l.st l.on
+abbrev pub invariant-loop-st : goal.invariant-loop-st
+invariant-loop-st l = Going l.room l.initial.cells l.initial.area l.initial.counts l.initial.st l.limit l.cells l.area l.counts l.st
 
-abbrev pub decreases-loop-on : goal.decreases-loop-on
-decreases-loop-on l = to_go_in l.initial.cells l.initial.area l.st
+abbrev pub decreases-loop-st : goal.decreases-loop-st
+decreases-loop-st l = to_go_in l.initial.cells l.initial.area l.st

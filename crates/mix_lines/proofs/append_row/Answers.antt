@@ -2,28 +2,10 @@
 use native.Mathlib.Omega.{arith}
 use mathlib.Core.List.{[], ◌∷◌}
 use Rattle.slices.specs.Numeral.{decimal}
-use Rattle.printing.proofs.Writing.{Fields, row_appended_at, row-none-at}
+use Rattle.printing.proofs.Writing.{Fields, row_appended_at}
 use Rattle.mix_lines.proofs.Bars.{bar-cut}
 use Rattle.mix_lines.proofs.Rows.{row_cut}
 use Rattle.mix_lines.proofs.append_row.Goals as goal
-
-pub returns-then-out-at : goal.returns-then-out-at
-returns-then-out-at c =
-    let a = c.args in
-    let cut = c.cut-bar.result.now in
-    let fields = decimal a.rule ∷ decimal a.count ∷ cut ∷ [] in
-    row_cut a.rule a.count a.largest a.at a.out.now cut
-    (bar-cut a.count a.largest c.bar_width.result cut c.bar_width.ensures c.cut-bar.ensures)
-    (row-none-at fields a.at a.out.now (omega arith))
-
-pub returns-then-out-at-2 : goal.returns-then-out-at-2
-returns-then-out-at-2 c =
-    let a = c.args in
-    let cut = c.cut-bar.result.now in
-    let fields = decimal a.rule ∷ decimal a.count ∷ cut ∷ [] in
-    row_cut a.rule a.count a.largest a.at a.out.now cut
-    (bar-cut a.count a.largest c.bar_width.result cut c.bar_width.ensures c.cut-bar.ensures)
-    (row-none-at fields a.at a.out.now (omega arith))
 
 pub returns : goal.returns
 returns c =
@@ -31,8 +13,9 @@ returns c =
     let cut = c.cut-bar.result.now in
     let digits = c.decimal_length.ensures in
     row_cut a.rule a.count a.largest a.at a.out.now cut
+    c.from-number.ensures
     (bar-cut a.count a.largest c.bar_width.result cut c.bar_width.ensures c.cut-bar.ensures)
-    (row_appended_at (decimal a.rule ∷ decimal a.count ∷ cut ∷ []) a.at a.out.now
+    (row_appended_at (decimal a.rule ∷ decimal c.from-number.result ∷ cut ∷ []) a.at a.out.now
     (omega (arith, c.if-out-at.false, c.if-out-at-2.false, digits, c.decimal_length-2.ensures))
     (Fields.next c.append_number-a.ensures
     (Fields.next c.append_number-b.ensures (Fields.last c.append_field.ensures))))

@@ -2,14 +2,8 @@
 use native.Mathlib.Omega.{arith}
 use mathlib.Core.List.{[], ◌∷◌}
 use Rattle.slices.specs.Numeral.{decimal}
-use Rattle.printing.proofs.Writing.{Fields, row_appended, row-none}
+use Rattle.printing.proofs.Writing.{Fields, row_appended}
 use Rattle.printing.proofs.print_count.Goals as goal
-
-pub returns-then-out-word : goal.returns-then-out-word
-returns-then-out-word c =
-    let a = c.args in
-    let fields = a.word.now ∷ decimal a.count ∷ [] in
-    row-none fields a.out.now (omega arith)
 
 pub returns : goal.returns
 returns c =

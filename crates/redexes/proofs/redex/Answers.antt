@@ -3,10 +3,10 @@ use Rattle.redexes.specs.Moves.{Leads}
 use Rattle.redexes.proofs.Moves.{move-within, move-past}
 use Rattle.redexes.proofs.redex.Goals as goal
 
-pub returns-then-s-first : goal.returns-then-s-first
-returns-then-s-first c =
+pub returns-then-text-first : goal.returns-then-text-first
+returns-then-text-first c =
     let a = c.args in
-    Leads.ends (move-past a.s.now a.first c.if-s-first.true) (omega arith)
+    Leads.ends (move-past a.text.letters.now a.first c.if-text-first.true) (omega arith)
 
 pub loop-p-init : goal.loop-p-init
 loop-p-init c = (omega arith, c.next_place-q.ensures, λ r l. l)

@@ -7,7 +7,7 @@ use Rattle.redexes.specs.Moves.{Move, Leads}
 use Rattle.redexes.proofs.redex.Given as goal
 
 abbrev pub invariant-loop-p : goal.invariant-loop-p
-invariant-loop-p l = (l.p ≤ length l.s) × Move (listed l.ends) l.s l.p l.q × ((r : ℕ) → Leads (listed l.ends) l.s l.p r → Leads (listed l.ends) l.s l.first r)
+invariant-loop-p l = (l.p ≤ length l.text.letters.now) × Move (listed l.text.ends.now) l.text.letters.now l.p l.q × ((r : ℕ) → Leads (listed l.text.ends.now) l.text.letters.now l.p r → Leads (listed l.text.ends.now) l.text.letters.now l.first r)
 
 abbrev pub decreases-loop-p : goal.decreases-loop-p
-decreases-loop-p l = length l.s - l.p
+decreases-loop-p l = length l.text.letters.now - l.p

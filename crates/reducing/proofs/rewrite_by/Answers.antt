@@ -6,5 +6,5 @@ pub returns : goal.returns
 returns c =
     let a = c.args in
     λ right t e short at some.
-    looked-up-makes t a.s.now a.first e at c.redex-p.result a.ends.now c.rewrite_at.result some right c.redex-p.ensures
+    looked-up-makes t a.text.letters.now a.first e at c.redex-p.result a.text.ends.now c.rewrite_at.result some right c.redex-p.ensures
     c.rewrite_at.ensures

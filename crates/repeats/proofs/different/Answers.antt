@@ -4,9 +4,6 @@ use Rattle.repeats.proofs.Counting.{counted-here, counted-later, counted-end}
 use Rattle.repeats.proofs.different.Goals as goal
 use Rattle.repeats.proofs.different.Goals.{then-not-stands, else-not-stands}
 
-pub loop-i-init : goal.loop-i-init
-loop-i-init c = (omega arith, omega arith, omega arith)
-
 pub loop-i-preserved : goal.loop-i-preserved
 loop-i-preserved c =
     let s = c.args.numbers.now in
@@ -15,13 +12,13 @@ loop-i-preserved c =
     elim c.if-not-stands.branch [
       | then-not-stands w ↦
           let one = counted-here s i more (sym w.if-not-stands.true ∙ c.stands.ensures) in
-          (omega (arith, w.count-is), omega arith, omega (arith, w.count-is))
+          (omega (arith, w.count-is), omega (arith, w.count-is))
       | else-not-stands w ↦
           let none = counted-later s i more (sym w.if-not-stands.false ∙ c.stands.ensures) in
-          (omega (arith, w.count-is), omega arith, omega (arith, w.count-is))
+          (omega (arith, w.count-is), omega (arith, w.count-is))
     ]
 
 pub returns : goal.returns
 returns c =
     let none_left = counted-end c.args.numbers.now c.loop-i.i c.loop-i-test.false in
-    omega (arith, c.loop-i.invariant.2)
+    omega (arith, c.loop-i.invariant.1)

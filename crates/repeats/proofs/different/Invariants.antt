@@ -1,6 +1,6 @@
 -- `repeats::different` meets its contract. The loop's invariant: those counted, and the different ones from `i` on, are all the different
--- ones. The measure is what is left of the slice.
-use Prim.Native.Nat.{◌≤◌, ◌+◌, ◌-◌}
+-- ones.
+use Prim.Native.Nat.{◌≤◌, ◌+◌}
 use mathlib.Core.Path.{◌≡◌}
 use lib.Dec.{eqb}
 use lib.ListN.{length, drop}
@@ -8,7 +8,4 @@ use Rattle.repeats.specs.Repeats.{withoutRepeats}
 use Rattle.repeats.proofs.different.Given as goal
 
 abbrev pub invariant-loop-i : goal.invariant-loop-i
-invariant-loop-i l = (l.count ≤ l.i) × (l.i ≤ length l.numbers) × (l.count + length (withoutRepeats eqb (drop l.i l.numbers)) ≡ length (withoutRepeats eqb l.numbers))
-
-abbrev pub decreases-loop-i : goal.decreases-loop-i
-decreases-loop-i l = length l.numbers - l.i
+invariant-loop-i l = (l.count ≤ l.i) × (l.count + length (withoutRepeats eqb (drop l.i l.numbers)) ≡ length (withoutRepeats eqb l.numbers))

@@ -7,7 +7,7 @@ use Rattle.replacing.proofs.Spelling.{Reached}
 use Rattle.replacing.proofs.replace.Given as goal
 
 abbrev pub invariant-loop-at : goal.invariant-loop-at
-invariant-loop-at l = Reached (spelled_in l.keys l.ends l.store l.piece) (spelled_in l.keys l.ends l.store (drop l.at l.piece)) l.initial.area l.area l.to
+invariant-loop-at l = Reached (spelled_in l.shelf.keys.now l.shelf.ends.now l.store l.piece) (spelled_in l.shelf.keys.now l.shelf.ends.now l.store (drop l.at l.piece)) l.initial.area l.area l.to
 
 abbrev pub decreases-loop-at : goal.decreases-loop-at
 decreases-loop-at l = length l.piece - l.at

@@ -1,21 +1,16 @@
-use native.Mathlib.Omega.{arith}
-use Rattle.slices.proofs.Finding.{index-here, index-later, index_end}
+-- `slices::find` meets its contract: the library's place of the first byte that passes the test is its index.
+use Rattle.std.proofs.Common.{rules}
+use Rattle.std.proofs.lemmas.Iterator.{YieldsList-from_slice}
+use Rattle.std.proofs.lemmas.Iterator.Search.{position_from_yields_List}
+use borrow.Author.Tests.{tests}
+use lib.Dec.{eqb}
+use Rattle.slices.proofs.Finding.{index_found}
 use Rattle.slices.proofs.find.Goals as goal
-
-pub loop-at-init : goal.loop-at-init
-loop-at-init c = (omega arith, omega arith)
-
-pub returns-then-s-at : goal.returns-then-s-at
-returns-then-s-at c =
-    let a = c.args in
-    omega (arith, index-here a.b a.s.now c.loop-at.at c.loop-at-test.true c.if-s-at.true)
-
-pub loop-at-preserved : goal.loop-at-preserved
-loop-at-preserved c =
-    let a = c.args in
-    (omega arith, omega (arith, index-later a.b a.s.now c.loop-at.at c.loop-at-test.true c.if-s-at.false))
 
 pub returns : goal.returns
 returns c =
     let a = c.args in
-    omega (arith, index_end a.b a.s.now c.loop-at.at c.loop-at-test.false)
+    let found =
+    position_from_yields_List (λ x. eqb x a.b) _ _ c.position.result c.position.ensures.ran (YieldsList-from_slice a.s.now cc)
+    (λ x b q k. search (rules, tests)) in
+    index_found a.b a.s.now c.position.result c.unwrap_or.result found c.unwrap_or.ensures

@@ -1,20 +1,18 @@
 -- `small_terms::sweep` meets its contract: a refusal is passed on, else the runs of all come to the tally.
+use Rattle.std.proofs.lemmas.Result.{err_from_is_err_and}
+use Rattle.small_admission.proofs.Replies.{said-admitted}
 use Rattle.small_terms.specs.Answer.{swept_in}
-use Rattle.small_admission.proofs.Replies.{others-refused, last-tag, said-admitted}
 use Rattle.small_terms.proofs.Sweeps.{sweep-refused, sweep-answered}
 use Rattle.small_terms.proofs.sweep.Goals as goal
 
-pub returns-in_default : goal.returns-in_default
-returns-in_default c =
-    sweep-refused c.args.n c.args.fuel c.args.area c.admit-admission.result c.admit-admission.ensures
-    (others-refused c.admit-admission.result c.in_default.not-Admitted)
+pub returns-in_err-admit : goal.returns-in_err-admit
+returns-in_err-admit c =
+    let p = err_from_is_err_and c.from_residual.result c.from_residual.ensures.1 in
+    rw (p.1, p.2) (sweep-refused c.args.n c.args.fuel c.args.area _ c.in_err-admit.ensures)
 
 pub run_in-runs-requires : goal.run_in-runs-requires
-run_in-runs-requires c =
-    said-admitted c.args.n c.args.fuel c.args.area c.admit-admission.result
-    c.admit-admission.ensures (last-tag c.admit-admission.result c.in-Admitted.is)
+run_in-runs-requires c = said-admitted c.args.n c.args.fuel c.args.area c.in_ok-admit.ensures
 
 pub returns : goal.returns
 returns c =
-    sweep-answered c.args.n c.args.fuel c.args.area c.admit-admission.result c.admit-admission.ensures
-    (last-tag c.admit-admission.result c.in-Admitted.is) (swept_in c.run_in-runs.result.tally) c.run_in-runs.ensures.0
+    sweep-answered c.args.n c.args.fuel c.args.area c.in_ok-admit.ensures (swept_in c.run_in-runs.result.tally) c.run_in-runs.ensures.0

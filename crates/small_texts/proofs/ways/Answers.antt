@@ -1,11 +1,8 @@
--- `small_texts::ways` meets its contract: a number of the table, all of which is right.
+-- `small_texts::ways` meets its contract: a number of the table, all of which is right, and 0 beside it.
 use native.Mathlib.Omega.{arith}
-use mathlib.Core.Path.{sym}
-use Rattle.small_texts.proofs.HowMany.{ways-none, table_at}
+use Rattle.std.proofs.lemmas.Grind.{common_steps}
+use Rattle.small_texts.proofs.HowMany.{any-row}
 use Rattle.small_texts.proofs.ways.Goals as goal
 
-pub returns-then-n-k : goal.returns-then-n-k
-returns-then-n-k c = sym (ways-none c.args.n c.args.k c.if-n-k.true)
-
 pub returns : goal.returns
-returns c = table_at 8 c.args.n c.args.k (omega arith) (omega arith)
+returns c = let e = any-row c.args.n c.args.k (omega arith) in grind (arith, common_steps, e)

@@ -8,7 +8,7 @@ use Rattle.stores.proofs.Replaying.{Replayed}
 use Rattle.stores.proofs.keeps.Given as goal
 
 abbrev pub invariant-loop-size : goal.invariant-loop-size
-invariant-loop-size l = Replayed l.store l.count l.used × (l.size ≡ size_at l.count l.store) × (l.count ≤ entry_limit) × (l.used ≤ letter_limit)
+invariant-loop-size l = Replayed l.store l.kept.count l.kept.used × (l.size ≡ size_at l.kept.count l.store) × (l.kept.count ≤ entry_limit) × (l.kept.used ≤ letter_limit)
 
 abbrev pub decreases-loop-size : goal.decreases-loop-size
-decreases-loop-size l = entry_limit - l.count
+decreases-loop-size l = entry_limit - l.kept.count

@@ -1,48 +1,45 @@
-use Prim.Native.Nat.{◌-◌, ◌≤◌}
+use Prim.Native.Nat.{◌-◌}
 use mathlib.Core.Path.{sym, ◌∙◌, ap}
 use native.Mathlib.Omega.{arith}
-use Rattle.entries.specs.Catalogue.{entry_limit, letter_limit}
-use Rattle.stores.proofs.Searching.{number-inside, number-past-count, number-past-used, found_here, found_before, found-end}
+use Rattle.stores.specs.Search.{numbered}
+use Rattle.stores.proofs.Searching.{number-inside, number-past-count, number-past-used, found_here, found_before, next-numbered}
 use Rattle.stores.proofs.number_of.Goals as goal
 
-pub returns-then-count-gt-ENTRY_LIMIT : goal.returns-then-count-gt-ENTRY_LIMIT
-returns-then-count-gt-ENTRY_LIMIT c =
+pub returns-then-kept-gt-ENTRY_LIMIT : goal.returns-then-kept-gt-ENTRY_LIMIT
+returns-then-kept-gt-ENTRY_LIMIT c =
     let a = c.args in
-    number-past-count a.store.now a.res.now a.print a.count a.used c.if-count-gt-ENTRY_LIMIT.true
+    ap numbered (number-past-count a.store.now a.res.now a.print a.kept.count a.kept.used c.if-kept-gt-ENTRY_LIMIT.true)
 
-pub returns-then-used-gt-LETTER_LIMIT : goal.returns-then-used-gt-LETTER_LIMIT
-returns-then-used-gt-LETTER_LIMIT c =
+pub returns-then-kept-gt-LETTER_LIMIT : goal.returns-then-kept-gt-LETTER_LIMIT
+returns-then-kept-gt-LETTER_LIMIT c =
     let a = c.args in
-    number-past-used a.store.now a.res.now a.print a.count a.used (omega (arith, c.if-count-gt-ENTRY_LIMIT.false)) c.if-used-gt-LETTER_LIMIT.true
+    ap numbered
+    (number-past-used a.store.now a.res.now a.print a.kept.count a.kept.used c.if-kept-gt-ENTRY_LIMIT.false c.if-kept-gt-LETTER_LIMIT.true)
 
-pub loop-left-init : goal.loop-left-init
-loop-left-init c =
+pub loop-entry-init : goal.loop-entry-init
+loop-entry-init c =
     let a = c.args in
-    let few : a.count ≤ entry_limit = omega (arith, c.if-count-gt-ENTRY_LIMIT.false) in
-    let short : a.used ≤ letter_limit = omega (arith, c.if-used-gt-LETTER_LIMIT.false) in
-    (few, short, number-inside a.store.now a.res.now a.print a.count a.used few short)
-
-pub is_at-requires : goal.is_at-requires
-is_at-requires c = (omega arith, omega (arith, c.minus-start.ensures), omega arith)
+    let few = c.if-kept-gt-ENTRY_LIMIT.false in
+    let short = c.if-kept-gt-LETTER_LIMIT.false in
+    (few, short, number-inside a.store.now a.res.now a.print a.kept.count a.kept.used few short)
 
 pub returns-then-is_at : goal.returns-then-is_at
 returns-then-is_at c =
     let a = c.args in
-    found_here a.store.now a.res.now a.print c.loop-left.left c.loop-left.end (c.loop-left.left - 1) c.minus-start.result (omega arith)
-    (c.minus-start.ensures ∙ ap (λ n. c.loop-left.end - n) c.size_at.ensures) (sym c.is_at.ensures ∙ c.if-is_at.true)
-    ∙ c.loop-left.invariant.2
+    next-numbered (c.loop-entry.entry - 1)
+    ∙ ap numbered
+    (found_here a.store.now a.res.now a.print c.loop-entry.entry c.loop-entry.end (c.loop-entry.entry - 1) c.saturating_sub-start.result
+    (omega arith)
+    (c.saturating_sub-start.ensures ∙ ap (λ n. c.loop-entry.end - n) c.size_at.ensures) (sym c.is_at.ensures ∙ c.if-is_at.true)
+    ∙ c.loop-entry.invariant.2)
 
-pub loop-left-preserved : goal.loop-left-preserved
-loop-left-preserved c =
+pub loop-entry-preserved : goal.loop-entry-preserved
+loop-entry-preserved c =
     let a = c.args in (
       omega arith,
-      omega (arith, c.minus-start.ensures),
-      found_before a.store.now a.res.now a.print c.loop-left.left c.loop-left.end (c.loop-left.left - 1) c.minus-start.result (omega arith)
-          (c.minus-start.ensures ∙ ap (λ n. c.loop-left.end - n) c.size_at.ensures) (sym c.is_at.ensures ∙ c.if-is_at.false)
-          ∙ c.loop-left.invariant.2,
+      omega (arith, c.saturating_sub-start.ensures),
+      found_before a.store.now a.res.now a.print c.loop-entry.entry c.loop-entry.end (c.loop-entry.entry - 1) c.saturating_sub-start.result
+          (omega arith)
+          (c.saturating_sub-start.ensures ∙ ap (λ n. c.loop-entry.end - n) c.size_at.ensures) (sym c.is_at.ensures ∙ c.if-is_at.false)
+          ∙ c.loop-entry.invariant.2,
     )
-
-pub returns : goal.returns
-returns c =
-    let a = c.args in
-    found-end a.store.now a.res.now a.print c.loop-left.left c.loop-left.end (omega (arith, c.loop-left-test.false)) ∙ c.loop-left.invariant.2

@@ -7,7 +7,7 @@ use Rattle.stores.proofs.size_at.Goals as goal
 pub returns-then-entry-lt-ENTRY_LIMIT : goal.returns-then-entry-lt-ENTRY_LIMIT
 returns-then-entry-lt-ENTRY_LIMIT c =
     let a = c.args in
-    c.wide.ensures ∙ c.word_at.ensures ∙ sym (size-there a.«entry» a.store.now c.if-entry-lt-ENTRY_LIMIT.true)
+    c.word_at.ensures ∙ sym (size-there a.«entry» a.store.now c.if-entry-lt-ENTRY_LIMIT.true)
 
 pub returns : goal.returns
 returns c =

@@ -1,9 +1,6 @@
 use native.Mathlib.Omega.{arith}
-use Rattle.tallies.proofs.Sums.{adds_start, adds-few, adds-next, adds-all}
+use Rattle.tallies.proofs.Sums.{adds-few, adds-next, adds-all}
 use Rattle.tallies.proofs.added.Goals as goal
-
-pub loop-place-init : goal.loop-place-init
-loop-place-init c = adds_start _ _
 
 pub overflow_add-sum : goal.overflow_add-sum
 overflow_add-sum c = omega (arith, adds-few c.loop-place.invariant c.requires)

@@ -1,2 +1,0 @@
--- The answers of the operations on derivation files, each as one number.
-mod Refusals

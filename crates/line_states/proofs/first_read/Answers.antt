@@ -1,5 +1,0 @@
--- `line_states::first_read` meets its contract: case by case.
-use Rattle.line_states.proofs.first_read.Goals as goal
-
-pub returns : goal.returns
-returns c = rw c.in-Number.is

@@ -1,7 +1,0 @@
--- `replacing::number_at` meets its contract: past the end `get_or` answers its default.
-use mathlib.Core.Path.{sym}
-use lib.ListN.{get_or-eq_default}
-use Rattle.replacing.proofs.number_at.Goals as goal
-
-pub returns : goal.returns
-returns c = sym (get_or-eq_default c.args.numbers.now 0 c.if-at-numbers.false)

@@ -1,2 +1,0 @@
--- The laws that the code's proofs cite.
-pub mod Named

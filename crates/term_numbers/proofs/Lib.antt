@@ -1,2 +1,0 @@
--- The answers of the operations on terms, each as one number.
-mod Refusals
