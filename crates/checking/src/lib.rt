@@ -5,12 +5,12 @@ ghost use Rattle.std.specs.Prelude.{◌≡◌, ◌≤◌, ◌==◌, [], length, 
 ghost use Rattle.calculus.specs.Limits.{line_limit};
 ghost use Rattle.slices.specs.Split.{line_feed, lines, last_byte};
 ghost use Rattle.derivation_files.specs.Checking.{check_lines, checking_of};
-ghost use Rattle.fields.specs.Fields.{texts_now};
+ghost use Rattle.fields.specs.Fields.{texts_at};
 ghost use Rattle.checking.specs.Answer.{refusal_of, answer_of, lines_of};
 ghost use Rattle.checking.specs.Claim.{claim_of};
 
 use derivation_lines::{Fault, check_line};
-use fields::{Judged, Texts, six_at};
+use fields::{Judged, six_at};
 use reading::Refusal;
 use slices::Span;
 
@@ -50,11 +50,11 @@ impl Refusal for Refused {
     }
 }
 
-// What is found of a file whose every line follows: the number of lines, and the context, the term and the type of the last.
+// What is found of a file whose every line follows: the number of lines, and where the context, the term and the type of the last stand.
 #[derive(Clone, Copy)]
-pub struct Checked<'a> {
+pub struct Checked {
     pub lines: usize,
-    pub claim: Texts<'a>,
+    pub claim: Judged,
 }
 
 // Checks a derivation file of any bytes, and answers the number of lines.
@@ -64,10 +64,10 @@ pub fn check_derivation(file: &[u8]) -> Result<usize, Refused>
     Ok(check_claim(file)?.lines)
 }
 
-// Checks a derivation file of any bytes, and finds what its last line claims.
+// Checks a derivation file of any bytes, and finds where the claim of its last line stands.
 pub fn check_claim(file: &[u8]) -> Result<Checked, Refused>
     ensures answer { answer_of (lines_of result) ≡ checking_of file.now }
-    ensures claim { IfOk result (λ checked. texts_now checked.claim ≡ claim_of file.now) }
+    ensures claim { IfOk result (λ checked. texts_at checked.claim file.now ≡ claim_of file.now) }
 {
     if calculus::FILE_LIMIT < file.len() {
         return Err(Refused::FileTooLong);
@@ -103,7 +103,7 @@ fn line_count(file: &[u8]) -> usize
 fn check_lines(file: &[u8]) -> Result<Checked, Refused>
     requires { (last_byte file.now ≡ line_feed) × (length (lines file.now) ≤ line_limit) }
     ensures answer { answer_of (lines_of result) ≡ check_lines 0 [] (lines file.now) }
-    ensures claim { IfOk result (λ checked. texts_now checked.claim ≡ claim_of file.now) }
+    ensures claim { IfOk result (λ checked. texts_at checked.claim file.now ≡ claim_of file.now) }
 {
     let nothing = Span { from: 0, to: 0 };
     let mut claim = Judged {
@@ -125,8 +125,5 @@ fn check_lines(file: &[u8]) -> Result<Checked, Refused>
         at = line.second.to + 1;
         claim = line.own;
     }
-    Ok(Checked {
-        lines: n,
-        claim: claim.of(file),
-    })
+    Ok(Checked { lines: n, claim })
 }

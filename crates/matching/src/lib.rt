@@ -17,7 +17,7 @@ pub fn match_claims(first: &[u8], second: &[u8]) -> Result<bool, Refused>
 {
     let one = check_claim(first)?;
     let two = check_claim(second)?;
-    Ok(same_claim(one.claim, two.claim))
+    Ok(same_claim(one.claim.of(first), two.claim.of(second)))
 }
 
 // Whether the contexts and the types are the same.
