@@ -31,7 +31,7 @@ fn main(rt: HostRuntime) {
         "dearest",
         &mut kept,
         &mut out,
-        |kept| feeding::feed_all(&mut rt.stdin(), kept),
+        |kept| feeding::feed_all(&mut rt.stdin(), kept).map_err(|unread| unread.error),
         |read, _, out| answer(read, out),
     );
 }

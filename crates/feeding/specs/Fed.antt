@@ -1,6 +1,8 @@
 -- A line that was fed what was read (REQUIREMENTS, Programs). No contract can say which bytes are read; these say that all that is done
 -- with them is to feed them.
 use Rattle.std.specs.Prelude.{ℕ, ◌≡◌, List, length, Result, Ok, Err}
+use Rattle.std.specs.declared.io.Error.{Error}
+use Rattle.feeding.specs.declared.Unread.{Unread}
 use Rattle.line_states.specs.declared.Line.{Line}
 use Rattle.line_states.specs.State.{State, state, fed}
 
@@ -21,7 +23,8 @@ module _ {E : Type 0} where
     unread : ReadOn s s (Ok 1)
     read : {t u : State} {last : Result ℕ E} (got : Result ℕ E) → ReadOn s t last → FedBy got t u → ReadOn s u got
 
-  -- `FedAll s r buffer`: reads lead from s to the line that is answered and this buffer, or to some line where the last of them failed
-  abbrev pub FedAll : State → Result Line E → (buffer : List ℕ) → Type 0
-  FedAll s (Ok line) buffer = (size : ℕ) × ReadOn s (state line buffer) (Ok size)
-  FedAll s (Err e) buffer = (line : Line) × ReadOn s (state line buffer) (Err e)
+-- `FedAll s r buffer`: reads lead from s to the line that is answered and this buffer, and where the last of them failed, the answer has
+-- its error with the line
+abbrev pub FedAll : State → Result Line Unread → (buffer : List ℕ) → Type 0
+FedAll s (Ok line) buffer = (size : ℕ) × ReadOn {E = Error} s (state line buffer) (Ok size)
+FedAll s (Err e) buffer = ReadOn s (state e.line buffer) (Err e.error)

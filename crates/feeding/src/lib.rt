@@ -19,16 +19,24 @@ fn feed_some<R: Read>(from: &mut R, line: &mut Line, kept: &mut [u8]) -> io::Res
     Ok(n)
 }
 
-// Feeds all that `from` has left, up to a read that fails. A proved loop has to end, so the turns count up to a number that no run
-// reaches.
-pub fn feed_all<R: Read>(from: &mut R, kept: &mut [u8]) -> io::Result<Line>
+// What a failed read leaves: the line as the reads before it left it, and the error.
+#[derive(Drop)]
+pub struct Unread {
+    pub line: Line,
+    pub error: io::Error,
+}
+
+// Feeds all that `from` has left, up to a read that fails: its error comes with the line so far. A proved loop has to end, so the turns
+// count up to a number that no run reaches.
+pub fn feed_all<R: Read>(from: &mut R, kept: &mut [u8]) -> Result<Line, Unread>
     ensures { FedAll (state start_line kept.old) result kept.new }
 {
     let mut line = line_states::start();
     for _ in 0..u64::MAX {
-        let got = feed_some(from, &mut line, kept)?;
-        if got == 0 {
-            break;
+        match feed_some(from, &mut line, kept) {
+            Ok(0) => break,
+            Ok(_) => {}
+            Err(error) => return Err(Unread { line, error }),
         }
     }
     Ok(line)

@@ -32,7 +32,7 @@ fn main(rt: HostRuntime) {
         "finish",
         &mut term,
         &mut out,
-        |term| feeding::feed_all(&mut rt.stdin(), term),
+        |term| feeding::feed_all(&mut rt.stdin(), term).map_err(|unread| unread.error),
         |read, term, out| answer(read, term, &mut work, out),
     );
 }
