@@ -20,7 +20,7 @@ use Rattle.redexes.proofs.Found.{first-none, search_found}
 use Rattle.rewriting.specs.declared.Rewrite.{Rewrite}
 use Rattle.rewriting.specs.Rewriting.{rewrite_of}
 use Rattle.rewriting.proofs.Rules.{Fires, FiresBy, fires}
-use Rattle.reducing.specs.Makes.{Makes, NextBy}
+use Rattle.reducing.specs.Makes.{Makes, MadeBy}
 
 -- the sizes of a front, a term and a back
 length_three : (x : List ℕ) (t : Term) (y : List ℕ) → length (x ++ (text t ++ y)) ≡ length x + size t + length y
@@ -46,18 +46,18 @@ module _ {t : Term} {from p : ℕ} (found : Redex t from p) where
         exact = λ k. omega (arith, fired.exact k);
       }
 
-  fired-next :
-      (w : Option Rewrite) → FiresBy found.spot.function found.spot.argument found.spot.front found.spot.back (text t) w → NextBy t w
-  fired-next None never = absurd never
-  fired-next (Some w) fired = fired-makes fired
+  fired-made :
+      (w : Option Rewrite) → FiresBy found.spot.function found.spot.argument found.spot.front found.spot.back (text t) w → MadeBy t w
+  fired-made None never = never
+  fired-made (Some w) fired = fired-makes fired
 
   -- what the rule that applies to the redex makes of the text
-  redex-makes : {end_of : ℕ → ℕ} → Ends end_of (text t) from (end_at (text t) from) → NextBy t (rewrite_of end_of (text t) p)
+  redex-makes : {end_of : ℕ → ℕ} → Ends end_of (text t) from (end_at (text t) from) → MadeBy t (rewrite_of end_of (text t) p)
   redex-makes {end_of} right =
       let spot = found.spot in
       let inside : Ends end_of (text t) p (p + size (Term.app spot.function spot.argument)) =
       λ i h k. right i (omega (arith, found.begins)) (omega (arith, found.ends)) in
-      fired-next (rewrite_of end_of (text t) p)
+      fired-made (rewrite_of end_of (text t) p)
       (fires end_of spot.function spot.argument (spot-laid spot) inside found.no_function found.no_argument)
 
 module _ (t : Term) (s : List ℕ) (first : ℕ) (e : s ≡ text t) (at : first ≡ index_of (byte Letter.stop) s) where
@@ -71,12 +71,12 @@ module _ (t : Term) (s : List ℕ) (first : ℕ) (e : s ≡ text t) (at : first 
   -- the rewrite at the index that the search ends at makes the next step
   pub looked-up-makes :
       (p : ℕ) (ends : List ℕ) (w : Option Rewrite) → ¬ (first ≡ length s) → Ends (listed ends) s first (end_at s first) →
-      Leads (listed ends) s first p → w ≡ rewrite_of (listed ends) s p → NextBy t w
+      Leads (listed ends) s first p → w ≡ rewrite_of (listed ends) s p → MadeBy t w
   looked-up-makes p ends w some stored leads q =
       let right = subst (λ (l : List ℕ). Ends (listed ends) l first (end_at l first)) e stored in
       let led = subst (λ (l : List ℕ). Leads (listed ends) l first p) e leads in
       let found = search_found t first first_of (λ n. some (n ∙ sym text-length)) right led in
-      subst (NextBy t) (sym (q ∙ ap (λ (l : List ℕ). rewrite_of (listed ends) l p) e)) (redex-makes found right)
+      subst (MadeBy t) (sym (q ∙ ap (λ (l : List ℕ). rewrite_of (listed ends) l p) e)) (redex-makes found right)
 
   -- where there is no full stop, nothing comes next
   pub nothing-next : first ≡ length s → next t ≡ Next.stop

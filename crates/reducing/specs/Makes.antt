@@ -16,13 +16,18 @@ pub record Makes (t : Term) (w : Rewrite) : Type 0 where
   pub grows : size reduct ≤ size t + (w.again.to - w.again.from)
   pub exact : 0 < w.again.to - w.again.from → size reduct ≡ size t + (w.again.to - w.again.from)
 
+-- there is a rewrite, and it makes the next step of t
+abbrev pub MadeBy : (t : Term) → Option Rewrite → Type 0
+MadeBy t None = ⊥
+MadeBy t (Some w) = Makes t w
+
 -- there is no rewrite where t has no next step, and else one that makes it
 abbrev pub NextBy : (t : Term) → Option Rewrite → Type 0
 NextBy t None = next t ≡ Next.stop
 NextBy t (Some w) = Makes t w
 
--- where the bytes s are the text of a term within the limit of areas, and `first` is the index of a full stop, the first one, w makes the
--- term's next step
+-- where the bytes s are the text of a term within the limit of areas, and `first` is the index of a full stop, the first one, w is a rewrite
+-- that makes the term's next step
 abbrev pub MakesFrom : (s : List ℕ) (first : ℕ) (w : Option Rewrite) → Type 0
 MakesFrom s first w =
-    (t : Term) → s ≡ text t → length s ≤ area_limit → first ≡ index_of (byte Letter.stop) s → ¬ (first ≡ length s) → NextBy t w
+    (t : Term) → s ≡ text t → length s ≤ area_limit → first ≡ index_of (byte Letter.stop) s → ¬ (first ≡ length s) → MadeBy t w
