@@ -15,14 +15,14 @@ const LARGE: usize = 16384;
 
 // Whether a batch in an arena of that many cells is all that can be made here: no part is left, or no step, or the area is no larger than
 // the terms that the arena is for.
-fn is_all(made: Made, most: u64, area: usize, cells: usize) -> bool
+pub fn is_all(made: Made, most: u64, area: usize, cells: usize) -> bool
     ensures { result ≡ false → made.steps < most }
 {
     !made.left || most <= made.steps || area <= cells / 4
 }
 
 // What two batches, one after the other, have come to.
-fn both(first: Made, second: Made) -> Made
+pub fn both(first: Made, second: Made) -> Made
     requires { (first.steps ≤ fuel_limit) × (second.steps ≤ fuel_limit) }
     ensures { (result.steps ≡ first.steps + second.steps) × (result.size ≡ second.size) }
 {
