@@ -1,13 +1,15 @@
 -- Texts that are a byte and then two texts: what `is_join` finds. Assumes nothing.
-use Prim.Native.Nat.{ℕ}
+use Prim.Native.Nat.{ℕ, ◌+◌}
 use mathlib.Core.Path.{◌≡◌, sym, ◌∙◌, ap, ap₂}
-use mathlib.Core.Bool.{true, false, true≢false, false≢true}
+use mathlib.Core.Bool.{true, false, ◌&&◌, false≢true}
 use mathlib.Core.List.{List, ◌∷◌, ◌++◌}
+use borrow.Author.Tests.{eqb-true, eq-eqb}
 use lib.Dec.{eqb}
-use lib.ListN.{length, take, drop, take-append-drop}
+use lib.ListN.{length, take, drop, take-append-drop, length-append}
 use lib.Pointwise.{pointwise, bytes_decides}
 use lib.Seq.{take-append_seam, drop-append_seam}
 use Rattle.slices.specs.Same.{same}
+use Rattle.slices.proofs.Decimal.{and_both}
 use Rattle.slices.proofs.Same.{same_unique}
 
 -- texts that differ are not the same
@@ -15,29 +17,34 @@ pub differ : (w v : List ℕ) → (w ≡ v → ⊥) → false ≡ same w v
 differ w v n = same_unique false w v (λ e. absurd (false≢true e)) (λ e. absurd (n e))
 
 module _ (w : List ℕ) (head first : ℕ) (a b rest : List ℕ) (cut : w ≡ first ∷ rest) where
-  -- the rest does not begin with the first text
-  pub join_missed : pointwise eqb (take (length a) rest) a ≡ false → false ≡ same w (head ∷ (a ++ b))
-  join_missed n = differ w (head ∷ (a ++ b)) apart
+  -- the rest is not as long as the two texts
+  pub join-length : (length rest ≡ length a + length b → ⊥) → false ≡ same w (head ∷ (a ++ b))
+  join-length n = differ w (head ∷ (a ++ b)) apart
     where
       apart : w ≡ head ∷ (a ++ b) → ⊥
-      apart e =
-          let behind : rest ≡ a ++ b = cc in
-          true≢false (sym ((bytes_decides (take (length a) rest) a).1 (ap (take (length a)) behind ∙ take-append_seam a b)) ∙ n)
+      apart e = let behind : rest ≡ a ++ b = cc in n (ap length behind ∙ length-append a b)
 
-  -- it does, and what is left decides
-  pub join_found :
-      (last : List ℕ) → pointwise eqb (take (length a) rest) a ≡ true → last ≡ drop (length a) rest → first ≡ head →
-      pointwise eqb last b ≡ same w (head ∷ (a ++ b))
-  join_found last p q e = same_unique (pointwise eqb last b) w (head ∷ (a ++ b)) there back
+  -- it is, and the byte in front and the texts decide
+  pub join_decided :
+      (front back : List ℕ) → front ≡ take (length a) rest → back ≡ drop (length a) rest →
+      ((eqb first head && pointwise eqb front a) && pointwise eqb back b) ≡ same w (head ∷ (a ++ b))
+  join_decided front back p q =
+      same_unique ((eqb first head && pointwise eqb front a) && pointwise eqb back b) w (head ∷ (a ++ b)) there there-back
     where
-      there : pointwise eqb last b ≡ true → w ≡ head ∷ (a ++ b)
+      there : ((eqb first head && pointwise eqb front a) && pointwise eqb back b) ≡ true → w ≡ head ∷ (a ++ b)
       there h =
+          let (both, last) = and_both (eqb first head && pointwise eqb front a) (pointwise eqb back b) h in
+          let (one, two) = and_both (eqb first head) (pointwise eqb front a) both in
           cut
-          ∙ ap₂ ◌∷◌ e
+          ∙ ap₂ ◌∷◌ (eqb-true first head one)
           (sym (take-append-drop (length a) rest)
-          ∙ ap₂ ◌++◌ ((bytes_decides (take (length a) rest) a).0 p) (sym q ∙ (bytes_decides last b).0 h))
+          ∙ ap₂ ◌++◌ (sym p ∙ (bytes_decides front a).0 two) (sym q ∙ (bytes_decides back b).0 last))
 
-      back : w ≡ head ∷ (a ++ b) → pointwise eqb last b ≡ true
-      back whole =
+      there-back : w ≡ head ∷ (a ++ b) → ((eqb first head && pointwise eqb front a) && pointwise eqb back b) ≡ true
+      there-back whole =
           let behind : rest ≡ a ++ b = cc in
-          (bytes_decides last b).1 (q ∙ ap (drop (length a)) behind ∙ drop-append_seam a b)
+          let same_head : first ≡ head = cc in
+          let one : eqb first head ≡ true = eq-eqb first head same_head in
+          let two : pointwise eqb front a ≡ true = (bytes_decides front a).1 (p ∙ ap (take (length a)) behind ∙ take-append_seam a b) in
+          let last : pointwise eqb back b ≡ true = (bytes_decides back b).1 (q ∙ ap (drop (length a)) behind ∙ drop-append_seam a b) in
+          ap₂ ◌&&◌ (ap₂ ◌&&◌ one two) last

@@ -1,47 +1,47 @@
--- Where fields end and begin, as the code finds it: these laws carry the functions of `fields`. Assumes nothing.
-use Prim.Native.Nat.{ℕ, suc, ◌+◌, ◌≤◌}
+-- Where fields end, as the code finds it: these laws carry `stop_from`. Assumes nothing.
+use Prim.Native.Nat.{ℕ, suc, ◌+◌, ◌≤◌, ◌<◌, max}
+use native.Mathlib.Numerals.{add-one}
 use native.Mathlib.Omega.{arith}
-use mathlib.Core.Path.{◌≡◌, refl, sym, ◌∙◌, ap}
+use native.Mathlib.Decide.{dec_le}
+use mathlib.Core.Path.{◌≡◌, ◌∙◌, ap}
 use mathlib.Core.Bool.{Bool, true, false, cond}
-use mathlib.Core.List.{List, [], ◌∷◌}
-use borrow.Author.Tests.{ltb-false}
-use lib.Dec.{ltb}
-use lib.ListN.{length}
-use Rattle.std.specs.Prelude.{Option, Some, None, unwrap_or, position}
-use Rattle.std.specs.List.{position_or_len}
-use Rattle.std.proofs.lemmas.List.Recursion.{is_position_or_len}
-use Rattle.slices.specs.Part.{part}
-use Rattle.slices.proofs.Part.{part-back}
+use mathlib.Core.List.{List}
+use lib.ListN.{length, get_or, drop, drop_of_length-le}
+use lib.Seq.{drop-cons}
 use Rattle.fields.specs.Fields.{is_stop, stop_in, stop_at}
 
--- ---- the first stop
+-- ---- one turn of `stop_from`
 
-stop-place : (s : List ℕ) → stop_in s ≡ position_or_len is_stop s
-stop-place s = is_position_or_len stop_in is_stop refl (λ b bytes. ap (cond (is_stop b) 0) {x = suc (stop_in bytes)} (omega arith)) s
+-- the byte at a place
+at_byte :
+    (at : ℕ) (s : List ℕ) → at < length s →
+    stop_in (drop at s) ≡ cond (is_stop (get_or s at 0)) 0 (suc (stop_in (drop (suc at) s)))
+at_byte at s h = ap stop_in (drop-cons s at 0 h)
 
-stop_few : (s : List ℕ) → stop_in s ≤ length s
-stop_few [] = omega arith
-stop_few (b ∷ bytes) = go (is_stop b) (stop_few bytes)
+-- a stop stands there
+pub at-stop : (at : ℕ) (s : List ℕ) → at < length s → is_stop (get_or s at 0) ≡ true → at ≡ stop_at s at
+at-stop at s h e =
+    let here : stop_in (drop at s) ≡ 0 = at_byte at s h ∙ ap (λ (t : Bool). cond t 0 (suc (stop_in (drop (suc at) s)))) e in
+    omega arith
+
+-- another byte stands there
+pub at_other : (at : ℕ) (s : List ℕ) → at < length s → is_stop (get_or s at 0) ≡ false → stop_at s (at + 1) ≡ stop_at s at
+at_other at s h e =
+    let here : stop_in (drop at s) ≡ suc (stop_in (drop (suc at) s)) = at_byte at s h
+    ∙ ap (λ (t : Bool). cond t 0 (suc (stop_in (drop (suc at) s)))) e in
+    let there : stop_in (drop (at + 1) s) ≡ stop_in (drop (suc at) s) = ap (λ (k : ℕ). stop_in (drop k s)) (add-one at) in
+    omega arith
+
+-- no byte stands there
+past : (at : ℕ) (s : List ℕ) → length s ≤ at → at ≡ stop_at s at
+past at s h = let here : stop_in (drop at s) ≡ 0 = ap stop_in (drop_of_length-le s h) in omega arith
+
+-- none of the file's bytes is left
+pub at-end :
+    (from at : ℕ) (s : List ℕ) → length s ≤ at → (from ≤ length s → at ≤ length s) → stop_at s at ≡ stop_at s from →
+    max from (length s) ≡ stop_at s from
+at-end from at s h few e = go (dec_le from (length s))
   where
-    go : (t : Bool) → stop_in bytes ≤ length bytes → cond t 0 (suc (stop_in bytes)) ≤ suc (length bytes)
-    go true h = omega arith
-    go false h = omega arith
-
--- the place of the first stop, and the length where there is none
-stop_found : (s : List ℕ) → unwrap_or (position is_stop s) (length s) ≡ stop_in s
-stop_found s = go (ltb (position_or_len is_stop s) (length s)) refl
-  where
-    go :
-        (t : Bool) → ltb (position_or_len is_stop s) (length s) ≡ t →
-        unwrap_or (cond t (Some (position_or_len is_stop s)) None) (length s) ≡ stop_in s
-    go true e = sym (stop-place s)
-    go false e = let far = ltb-false _ _ e in omega (arith, far, stop-place s, stop_few s)
-
--- the first stop of the rest of the file
-pub stop_behind :
-    (from : ℕ) (s rest : List ℕ) (o : Option ℕ) (n : ℕ) → rest ≡ part from (length s) s → o ≡ position is_stop rest →
-    n ≡ unwrap_or o (length rest) → from + n ≡ stop_at s from
-stop_behind from s rest o n p q r =
-    ap (λ (k : ℕ). from + k)
-    (r ∙ ap (λ (found : Option ℕ). unwrap_or found (length rest)) q ∙ stop_found rest
-    ∙ ap stop_in (p ∙ part-back from (length s) s (omega arith)))
+    go : Dec (from ≤ length s) → max from (length s) ≡ stop_at s from
+    go (yes within) = let last = few within in let end = past at s h in omega (arith, last, end, e)
+    go (no beyond) = let end = past from s (omega arith) in omega (arith, end)

@@ -1,7 +1,7 @@
 // The fields of a line, by where they stand, and their texts.
 #![tactic(auto)]
 
-ghost use Rattle.std.specs.Prelude.{◌≡◌, ◌∷◌, ◌++◌, position};
+ghost use Rattle.std.specs.Prelude.{◌≡◌, ◌∷◌, ◌++◌};
 ghost use Rattle.slices.specs.Same.{same};
 ghost use Rattle.fields.specs.Fields.{stop_at, behind_in, field_at, judged_at, six_at, is_tab, is_stop, has_six, texts_at, texts_now};
 
@@ -112,18 +112,16 @@ fn behind(file: &[u8], at: usize) -> usize
 }
 
 // The index of the first tab or line feed from an index on, and the end where there is none.
+// Kept: a loop over indices, since what a `position` in the rest finds is a sum of lengths, which costs more at each further field.
 fn stop_from(file: &[u8], from: usize) -> usize
     ensures { result ≡ stop_at file.now from }
 {
-    let rest = slices::cut(file, from, file.len());
-    from + first_stop(rest).unwrap_or(rest.len())
-}
-
-// The index of the first tab or line feed.
-fn first_stop(s: &[u8]) -> Option<usize>
-    ensures { result ≡ position is_stop s.now }
-{
-    s.iter().position(|b| is_stop(*b))
+    for at in from..file.len() {
+        if is_stop(file[at]) {
+            return at;
+        }
+    }
+    from.max(file.len())
 }
 
 // Whether a byte ends a field.
@@ -133,15 +131,16 @@ fn is_stop(b: u8) -> bool
     b == slices::TAB || b == slices::LINE_FEED
 }
 
-// Whether a text is a byte and then two texts.
+// Whether a text is a byte and then two texts: the lengths decide first, since they cost least.
 pub fn is_join(w: &[u8], head: u8, a: &[u8], b: &[u8]) -> bool
     ensures { result ≡ same w.now (head ∷ (a.now ++ b.now)) }
 {
     let Some((first, rest)) = w.split_first() else {
         return false;
     };
-    let Some(last) = rest.strip_prefix(a) else {
+    if rest.len() != a.len() + b.len() {
         return false;
-    };
-    *first == head && last == b
+    }
+    let (front, back) = rest.split_at(a.len());
+    *first == head && front == a && back == b
 }
