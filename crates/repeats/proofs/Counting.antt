@@ -1,16 +1,12 @@
--- What a turn of the loop of `different` does, where `i` is the place that the turn looks at; and that `stands` meets its contract. Assumes
--- nothing.
+-- What a turn of the loops of `stands` and `different` does, where `i` is the place that the turn looks at. Assumes nothing.
 use Prim.Native.Nat.{ℕ, ◌+◌, ◌-◌, ◌≤◌, ◌<◌}
 use native.Mathlib.Numerals.{add-one}
 use native.Mathlib.Omega.{arith}
-use mathlib.Core.Path.{◌≡◌, refl, sym, ap, ap₂, ◌∙◌}
+use mathlib.Core.Path.{◌≡◌, sym, ap, ◌∙◌}
 use mathlib.Core.Bool.{Bool, true, false, ◌||◌}
-use mathlib.Core.List.{List, [], ◌∷◌}
+use mathlib.Core.List.{List, ◌∷◌}
 use borrow.Author.Tests.{eq-eqb, ne_eqb}
 use lib.Dec.{eqb}
-use mathlib.Core.Logic.{inl, inr}
-use Rattle.std.proofs.lemmas.Bool.Decides.{eqb_tells}
-use Rattle.std.specs.List.{list_any}
 use lib.ListN.{length, get_or, take, drop, length-drop, drop_of_length-le}
 use lib.Seq.{drop-cons, take_all}
 use Rattle.repeats.specs.Repeats.{among, unless, withoutRepeats}
@@ -19,6 +15,25 @@ module _ (s : List ℕ) (i : ℕ) (h : i < length s) where
   -- the number at a place, and the numbers behind it
   place : drop i s ≡ get_or s i 0 ∷ drop (i + 1) s
   place = drop-cons s i 0 h ∙ ap (λ (n : ℕ). get_or s i 0 ∷ drop n s) (sym (add-one i))
+
+  -- ---- `stands`
+
+  -- a number that stands here stands in the slice
+  pub among-here : (number : ℕ) → get_or s i 0 ≡ number → among eqb number (drop i s) ≡ among eqb number s → true ≡ among eqb number s
+  among-here number e kept =
+      sym (ap (among eqb number) place ∙ ap (λ (b : Bool). b || among eqb number (drop (i + 1) s)) (eq-eqb number (get_or s i 0) (sym e)))
+      ∙ kept
+
+  -- one that does not, stands in the slice exactly where it stands later
+  pub among_later :
+      (number : ℕ) → ¬ (get_or s i 0 ≡ number) → among eqb number (drop i s) ≡ among eqb number s →
+      among eqb number (drop (i + 1) s) ≡ among eqb number s
+  among_later number n kept =
+      sym (ap (among eqb number) place
+      ∙ ap (λ (b : Bool). b || among eqb number (drop (i + 1) s)) (ne_eqb number (get_or s i 0) (λ e. n (sym e))))
+      ∙ kept
+
+  -- ---- `different`
 
   -- the part of the slice behind a place
   abbrev later : List ℕ
@@ -46,19 +61,13 @@ module _ (s : List ℕ) (i : ℕ) (h : i < length s) where
       length (withoutRepeats eqb (drop i s)) ≡ length (withoutRepeats eqb (drop (i + 1) s)) + 1
   counted-here e = omega (arith, kept_at false e)
 
+-- ---- the end
+
+-- a number that has not been met does not stand in the slice
+pub among-end :
+    (number : ℕ) (s : List ℕ) (i : ℕ) → length s ≤ i → among eqb number (drop i s) ≡ among eqb number s → false ≡ among eqb number s
+among-end number s i h kept = sym (ap (among eqb number) (drop_of_length-le s h)) ∙ kept
+
 -- none are left to count
 pub counted-end : (s : List ℕ) (i : ℕ) → length s ≤ i → length (withoutRepeats eqb (drop i s)) ≡ 0
 counted-end s i h = ap (λ (l : List ℕ). length (withoutRepeats eqb l)) (drop_of_length-le s h)
-
--- ---- the library's test of whether a number stands in a slice
-
-eqb-comm : (x y : ℕ) → eqb x y ≡ eqb y x
-eqb-comm x y =
-    elim (eqb_tells x y) [
-      | inl z ↦ z.0 ∙ sym (eq-eqb y x (sym z.1))
-      | inr z ↦ z.0 ∙ sym (ne_eqb y x (λ e. z.1 (sym e)))
-    ]
-
-pub any_among : (number : ℕ) (s : List ℕ) → list_any (λ y. eqb y number) s ≡ among eqb number s
-any_among number [] = refl
-any_among number (y ∷ s) = ap₂ (λ (a b : Bool). a || b) (eqb-comm y number) (any_among number s)

@@ -8,7 +8,12 @@ ghost use Rattle.repeats.specs.Repeats.{among, withoutRepeats};
 fn stands(number: u64, numbers: &[u64]) -> bool
     ensures { result ≡ among eqb number numbers.now }
 {
-    numbers.contains(&number)
+    for other in numbers {
+        if *other == number {
+            return true;
+        }
+    }
+    false
 }
 
 // How many different numbers there are: each is counted where it stands last.
