@@ -38,5 +38,5 @@ pub fn index_of(keys: &[u64], key: u64) -> usize
 pub fn is_in(keys: &[u64], key: u64) -> bool
     ensures { result ≡ is_in key keys.now }
 {
-    keys.contains(&key)
+    index_of(keys, key) < keys.len()
 }
